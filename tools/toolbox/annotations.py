@@ -6,7 +6,7 @@ from dataclasses import dataclass
 from typing import TYPE_CHECKING, Iterator
 from urllib.parse import quote
 
-from toolbox.commands import plural, printable
+from toolbox.commands import REFUSED, plural, printable
 from toolbox.guard import Kind
 
 if TYPE_CHECKING:
@@ -68,6 +68,8 @@ def findings(guard: Guard, rules: str) -> Iterator[Finding]:
     for line in guard.nothing():
         yield Finding(None, "error", f"nothing was compared: {line}", None, None)
     for seen in guard.seen:
+        for line in filter(None, (*seen.router, seen.not_compared)):
+            yield Finding(None, "error", f"{seen.capture}: {line}", None, None)
         if seen.is_torn:
             text = f"{seen.capture}: torn: it ends within record {seen.records + 1}"
             yield Finding(None, "warning", text, None, None)
@@ -138,7 +140,7 @@ def sarif(guard: Guard, rules: str, status: int) -> str:
     remarks = [remark_of(one) for one in told if one.kind is None]
     rules_of = [{"id": kind.value, "shortDescription": {"text": MEANS[kind]}} for kind in Kind]
     driver: dict[str, object] = {"name": "nftrun compare", "rules": rules_of}
-    invocation = {"executionSuccessful": not guard.nothing(), "exitCode": status, "toolExecutionNotifications": remarks}
+    invocation = {"executionSuccessful": status != REFUSED, "exitCode": status, "toolExecutionNotifications": remarks}
     results = [result_of(one, one.kind) for one in told if one.kind]
     run: dict[str, object] = {"tool": {"driver": driver}, "results": results, "invocations": [invocation]}
     return json.dumps({"$schema": SCHEMA, "version": "2.1.0", "runs": [run]}, indent=1)

@@ -151,7 +151,8 @@ class Unmet:
 @dataclass(frozen=True)
 class Seen:
     """What is kept of the comparison over one capture: what differs, what no packet met, of what it can't be told, and
-    why nothing was compared; `is_blind` is whether no record came to any rule."""
+    why nothing was compared; `is_blind` is whether no record came to any rule. `router` are lines of what the router
+    did otherwise than the run of OLD, `not_compared` how many records these are."""
 
     capture: str
     judged: tuple[Judged, ...]
@@ -162,6 +163,8 @@ class Seen:
     is_torn: bool
     records: int
     differ: int
+    router: tuple[str, ...] = ()
+    not_compared: str | None = None
 
 
 class Guard:
@@ -201,6 +204,12 @@ class Guard:
         return [f"{seen.capture}: {seen.nothing}" if several else seen.nothing
                 for seen in self.seen if seen.nothing and (every or seen.is_blind)]
 
+    def otherwise(self) -> list[str]:
+        """What isn't compared, a line for each capture: flows that the router sent on otherwise than the run of OLD."""
+        several = len(self.seen) > 1
+        return [f"{seen.capture}: {seen.not_compared}" if several else seen.not_compared
+                for seen in self.seen if seen.not_compared]
+
     def fails_on(self) -> dict[Kind, int]:
         """By kind how many groups, or changes, are failed on."""
         counts: dict[Kind, int] = {}
@@ -214,7 +223,7 @@ class Guard:
     def status(self) -> int:
         if self.fails_on():
             return DIFFERS
-        if self.nothing():
+        if self.nothing() or any(seen.router for seen in self.seen):
             return REFUSED
         return TORN if any(seen.is_torn for seen in self.seen) else DONE
 
@@ -228,6 +237,7 @@ class Guard:
         nothing = len(self.nothing())
         if nothing:
             parts.append(f"nothing was compared in {nothing} of {plural(len(self.seen), 'capture')}")
+        parts += self.otherwise()
         return ", ".join(parts + ([f"{plural(accepted, 'group')} accepted"] if accepted else []))
 
 

@@ -13,6 +13,7 @@ from toolbox.flows import Flows
 from toolbox.packets import TCP, describe, destination_end, end_text, flags_text, inverse, source_end, tuple_at
 from toolbox.replay import AS_CAPTURED, Replay
 from toolbox.reports import THROUGH, Decision, event_of, events_of_some
+from toolbox.router import Router
 from toolbox.rulesets import TRANSLATIONS, read_ruleset
 
 if TYPE_CHECKING:
@@ -87,6 +88,17 @@ class Why:
         frame = self.left.get(self.record)
         self.key_left = None if frame is None else tuple_at(frame, OUT_LINK)
 
+    def router(self) -> Router:
+        """What the router did otherwise with the packets of this flow; of a copy, with those of the flow that left so.
+        """
+        router = Router(self.flows, self.box, self.replay, self.members)
+        came = router.copies.record_of(self.record)
+        if came is None:
+            return router
+        flow = self.flows.of[came]
+        members = [number for number, of in enumerate(self.flows.of) if flow and of == flow] or [came]
+        return Router(self.flows, self.box, self.replay, members, router.copies)
+
     def behind_mapping(self) -> bytes | None:
         """The inner end that has this packet's destination as its external one in this run, or None."""
         if self.key is None:
@@ -105,14 +117,8 @@ class Why:
             flow = value >> 1
             if left and flow != self.flow and inverse(left) == self.key:
                 last = max((number for number, of in enumerate(self.flows.of[:self.record]) if of == flow), default=0)
-                return (flow, self.seconds - self.seconds_of(last)) if last else None
+                return (flow, self.seconds - self.flows.seconds(last)) if last else None
         return None
-
-    def seconds_of(self, record: int) -> int:
-        with open(self.capture, "rb") as file:
-            file.seek(self.flows.offset[record] - RECORD_HEADER)
-            seconds: int = struct.unpack(self.header.order + "I", file.read(4))[0]
-            return seconds
 
     def moment(self, seconds: int | None = None, fraction: int | None = None) -> str:
         digits = len(str(self.header.fractions)) - 1
