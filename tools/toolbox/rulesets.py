@@ -39,6 +39,7 @@ ENDS = ("accept", "drop", "return", "goto")
 VERDICTS = (*ENDS, "continue", "jump", "vmap")
 TRANSLATIONS = ("snat", "dnat", "masquerade", "redirect")
 PRIORITIES = {"raw": -300, "mangle": -150, "dstnat": -100, "filter": 0, "security": 50, "srcnat": 100}
+MOST_DIGITS = 20  # of a number that any ruleset has
 EARLY = -200  # filter chains of prerouting up to here run before connections are looked for
 
 
@@ -257,7 +258,7 @@ def priority_of(texts: Sequence[str]) -> int:
             sign = -1 if text == "-" else 1
         elif text in PRIORITIES:
             total += PRIORITIES[text]
-        elif text.isdecimal():
+        elif text.isdecimal() and len(text) <= MOST_DIGITS:
             total += sign * int(text)
     return total
 
