@@ -65,6 +65,9 @@ class Copies:
         self.young: dict[bytes, list[Waiting]] = {}
         self.old: dict[bytes, list[Waiting]] = {}
         self.waiting = 0
+        # by what is the same of copies how many left by each interface
+        self.left: dict[bytes, Counter[bytes]] = {}
+        self.left_before: dict[bytes, Counter[bytes]] = {}
         if flows.link_type == LINUX_SLL2:
             self.read(flows.path)
 
@@ -76,7 +79,7 @@ class Copies:
                 self.enter(number, data)
             elif data[10] == SENT_BY_US:
                 self.leave(number, data)
-        self.young, self.old = {}, {}
+        self.young, self.old, self.left, self.left_before = {}, {}, {}, {}
 
     def hop(self, record: int) -> Hop | None:
         """How the packet of a record went, or None where its copy isn't in the capture."""
@@ -98,11 +101,10 @@ class Copies:
 
     def leave(self, number: int, data: bytes) -> None:
         """A copy: of the packets like it that wait, of the one that changed least."""
-        mark = identity(data, AT)
+        mark, key = identity(data, AT), key_of(data)
         alike = (self.young if mark in self.young else self.old).get(mark)
-        if not alike:
+        if self.is_second_sight(mark + key, data[4:8]) or not alike:
             return
-        key = key_of(data)
         came = max(alike, key=lambda one: likeness(one.key, key))
         alike.remove(came)
         if came.index in self.indices:
@@ -113,6 +115,17 @@ class Copies:
             self.of[came.record], self.place[came.record] = number, self.places[hop]
         elif data[TTL] == came.ttl - 1:
             self.unknown[number_of(came.index)] += 1
+
+    def is_second_sight(self, packet: bytes, index: bytes) -> bool:
+        """Whether a copy is that of one that left before, now at the device below: the port of a bridge, or what
+        carries a VLAN."""
+        counts = self.left.get(packet) or self.left_before.get(packet) or Counter()
+        is_second = any(number > counts[index] for other, number in counts.items() if other != index)
+        counts[index] += 1
+        self.left[packet] = counts
+        if len(self.left) > WINDOW:
+            self.left, self.left_before = {}, self.left
+        return is_second
 
     def route(self, address: bytes) -> int:
         """The index of the interface to which the box file's routes lead, or 0."""
