@@ -27,8 +27,8 @@ class Clocks(Found):
         self.assertEqual(found.numbers, {"record": 3, "seconds": 1399, "flows": 1})
 
     def test_not_forward(self) -> None:
-        for moments in ((100, 101, 399, 400), (100, 1500, 1501), (100, 101, 1500), (100, 101, 1500, 1511),
-                        (100, 101, 120, 1500, 1501)):
+        for moments in ((100, 101, 399, 400), (1, 1500, 1501), (100, 1500, 1501), (100, 101, 1500),
+                        (100, 101, 1500, 1511), (100, 101, 120, 1500, 1501)):
             # at 120 another one asks, alone
             frames = [frame for moment in moments
                       for frame in self.at(moment, packet=OTHER if moment == 120 else QUERY)]
