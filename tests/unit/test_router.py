@@ -56,8 +56,8 @@ class WithoutARun(OfCapture):
         way, astray = router.told()[0]
         self.assertEqual(way, Way("lan", "wan2", "wan", None, False))
         self.assertEqual((astray.packets, astray.first, router.flows), (2, [1, 3], {1, 2}))
-        self.assertEqual(router.lines()[0], "the run isn't the router: 2 packets of 2 flows came by lan and left by wan2; "
-                                            "the box file's routes lead to wan: records 1, 3")
+        self.assertEqual(router.lines()[0], "the run isn't the router: 2 packets of 2 flows came by lan and left by "
+                                            "wan2; the box file's routes lead to wan: records 1, 3")
         self.assertEqual(router.not_compared(), "not compared: 2 flows, 2 records: what the rulesets change for these "
                                                 "isn't known")
 
@@ -65,14 +65,23 @@ class WithoutARun(OfCapture):
         router = Router(self.flows(*self.forwarded(UNKNOWN), box=BOX.replace("route 0.0.0.0/0 wan\n", "")), self.box)
         self.assertIn("came by lan and left by index 9; the box file's routes lead nowhere", router.lines()[0])
 
-    def test_packets_alike_leave_each_by_its_own(self) -> None:
-        flows = self.flows((1, LAN, TO_US, QUERY), (1.1, LAN, TO_US, QUERY), (1.2, WAN, SENT_BY_US, sent_on(QUERY)),
-                           (1.3, UPLINK, SENT_BY_US, sent_on(QUERY)), (1.4, UPLINK, SENT_BY_US, sent_on(QUERY)))
+    def test_packets_alike_leave_one_after_the_other(self) -> None:
+        query = sent_on(QUERY)
+        flows = self.flows((1, LAN, TO_US, QUERY), (1.1, LAN, TO_US, QUERY), (1.2, WAN, SENT_BY_US, query),
+                           (1.3, WAN, SENT_BY_US, query), (1.4, UPLINK, SENT_BY_US, query))
         copies = Copies(flows, self.box)
         self.assertEqual(list(copies.of), [0, 3, 4, 0, 0, 0])
         self.assertEqual((copies.record_of(4), copies.record_of(5)), (2, None))
         hop = copies.hop(2)
-        self.assertEqual(hop and (hop.came_by, hop.left_by, hop.routed), (LAN, UPLINK, WAN))
+        self.assertEqual(hop and (hop.came_by, hop.left_by, hop.routed), (LAN, WAN, WAN))
+
+    def test_each_leaves_by_two_devices_one_above_the_other(self) -> None:
+        query = sent_on(QUERY)
+        frames = [(1, LAN, TO_US, QUERY), (1, LAN, TO_US, QUERY)]
+        frames += [(1, index, SENT_BY_US, query) for index in (WAN, UNKNOWN, WAN, UNKNOWN)]
+        flows = self.flows(*frames)
+        self.assertEqual(list(Copies(flows, self.box).of), [0, 3, 5, 0, 0, 0, 0])
+        self.assertFalse(Router(flows, self.box))
 
     def test_what_came_by_an_unknown_interface(self) -> None:
         copies = Copies(self.flows(*self.forwarded(came_by=UNKNOWN)), self.box)

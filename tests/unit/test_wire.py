@@ -27,11 +27,11 @@ class Clocks(Found):
         self.assertEqual(found.numbers, {"record": 3, "seconds": 1399, "flows": 1})
 
     def test_not_forward(self) -> None:
-        for moments in ((100, 101, 399, 400), (100, 1500, 1501), (100, 101, 1500), (100, 101, 1500, 1511),
-                        (100, 101, 120, 1500, 1501)):
-            frames = self.at(*moments)
+        for moments in ((100, 101, 399, 400), (1, 1500, 1501), (100, 1500, 1501), (100, 101, 1500),
+                        (100, 101, 1500, 1511), (100, 101, 120, 1500, 1501)):
             # at 120 another one asks, alone
-            frames = [(moment, *rest, OTHER if moment == 120 else packet) for moment, *rest, packet in frames]
+            frames = [frame for moment in moments
+                      for frame in self.at(moment, packet=OTHER if moment == 120 else QUERY)]
             self.assertNotIn("clock forward", self.found(*frames), moments)
         self.assertNotIn("clock forward", self.found(*self.at(100, 101, 1500, 1501), box=BOX + "idle udp 2000\n"))
 
@@ -70,7 +70,8 @@ class Packets(Found):
         self.assertTrue(found["empty"].misleads)
 
     def test_what_the_box_file_cant_say(self) -> None:
-        found = self.found(*self.at(1), box=BOX + "# left out: 7: wg0:a    inet 10.9.0.1/24\n# left out: blackhole 10.0.0.0/8\n")
+        left_out = "# left out: 7: wg0:a    inet 10.9.0.1/24\n# left out: blackhole 10.0.0.0/8\n"
+        found = self.found(*self.at(1), box=BOX + left_out)
         self.assertIn("7: wg0:a inet 10.9.0.1/24", found["interfaces left out"].text)
         self.assertTrue(found["interfaces left out"].misleads)
         self.assertFalse(found["routes left out"].misleads)

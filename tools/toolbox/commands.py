@@ -55,8 +55,11 @@ def is_closed(stream: str) -> bool:
 
 
 def warn(line: str) -> None:
-    """A line on standard error, if there is one."""
+    """A line on standard error, if there is one, behind what was said on standard output before."""
     if not is_closed("__stderr__"):
+        if not is_closed("__stdout__"):
+            with contextlib.suppress(OSError):
+                sys.stdout.flush()
         print(printable(line), file=sys.stderr)
 
 

@@ -9,7 +9,7 @@ from __future__ import annotations
 from array import array
 from collections import Counter
 from dataclasses import dataclass, field
-from typing import TYPE_CHECKING, Collection, Iterator
+from typing import TYPE_CHECKING, Collection, Iterator, Tuple
 
 from toolbox.captures import IPV4, LINK_LENGTHS, LINUX_SLL2, SENT_BY_US, TO_US, records
 from toolbox.commands import plural
@@ -32,14 +32,8 @@ LET_IN_OTHERWISE = ("a set that packets fill, other rules than these, an idle li
                     "before the capture: the router let them through, and a run doesn't")
 
 
-@dataclass(frozen=True)
-class Waiting:
-    """A packet that entered, and whose copy may come."""
-
-    record: int
-    key: bytes
-    index: bytes
-    ttl: int
+# A packet that entered, and whose copy may come: its record, and its bytes
+Waiting = Tuple[int, bytes]
 
 
 @dataclass(frozen=True)
@@ -59,12 +53,14 @@ class Copies:
         self.box, self.indices = box, box.index_bytes()
         self.of, self.place = (array("I", bytes(4 * (flows.count + 1))) for _ in range(2))
         self.hops: list[Hop] = []
-        self.places: dict[Hop, int] = {}
+        self.places: dict[tuple[bytes, bytes, int], int] = {}
         self.unknown: Counter[int] = Counter()
         self.routes: dict[bytes, int] = {}
+        # by what forwarding leaves of a packet: those that wait for their copies
         self.young: dict[bytes, list[Waiting]] = {}
         self.old: dict[bytes, list[Waiting]] = {}
-        self.waiting = 0
+        # of several packets alike, by that and their tuples, how many left by each interface
+        self.left: dict[bytes, dict[bytes, Counter[bytes]]] = {}
         if flows.link_type == LINUX_SLL2:
             self.read(flows.path)
 
@@ -76,7 +72,7 @@ class Copies:
                 self.enter(number, data)
             elif data[10] == SENT_BY_US:
                 self.leave(number, data)
-        self.young, self.old = {}, {}
+        self.young, self.old, self.left = {}, {}, {}
 
     def hop(self, record: int) -> Hop | None:
         """How the packet of a record went, or None where its copy isn't in the capture."""
@@ -87,32 +83,52 @@ class Copies:
         return self.of.index(copy) if copy in self.of else None
 
     def enter(self, number: int, data: bytes) -> None:
-        mark, is_known = identity(data, AT), data[4:8] in self.indices
-        alike = self.young.get(mark) or self.old.get(mark) or []
-        # what came by the port of a bridge, or below a VLAN, comes by an interface of the box now
-        alike = [one for one in alike if not is_known or one.index in self.indices]
-        self.young[mark] = [*alike[-MOST_ALIKE:], Waiting(number, key_of(data), data[4:8], data[TTL])]
-        self.waiting += 1
-        if self.waiting > WINDOW:
-            self.old, self.young, self.waiting = self.young, {}, 0
+        mark = identity(data, AT)
+        alike = self.young.pop(mark, None) or self.old.pop(mark, None)
+        if alike and data[4:8] in self.indices:
+            # what came by the port of a bridge, or below a VLAN, comes by an interface of the box now
+            alike = [one for one in alike[-MOST_ALIKE:] if one[1][4:8] in self.indices]
+        self.young[mark] = [*alike, (number, data)] if alike else [(number, data)]
+        if len(self.young) > WINDOW:
+            self.old, self.young, self.left = self.young, {}, {}
 
     def leave(self, number: int, data: bytes) -> None:
         """A copy: of the packets like it that wait, of the one that changed least."""
         mark = identity(data, AT)
-        alike = (self.young if mark in self.young else self.old).get(mark)
+        alike = self.young.pop(mark, None) or self.old.pop(mark, None)
         if not alike:
             return
-        key = key_of(data)
-        came = max(alike, key=lambda one: likeness(one.key, key))
-        alike.remove(came)
-        if came.index in self.indices:
-            hop = Hop(number_of(came.index), number_of(data[4:8]), self.route(data[DESTINATION]))
-            if hop not in self.places:
-                self.places[hop] = len(self.hops)
-                self.hops.append(hop)
-            self.of[came.record], self.place[came.record] = number, self.places[hop]
-        elif data[TTL] == came.ttl - 1:
-            self.unknown[number_of(came.index)] += 1
+        came, *rest = alike
+        if rest or mark in self.left:
+            key = key_of(data)
+            if self.is_second_sight(mark, key, data[4:8]):
+                self.young[mark] = alike
+                return
+            came = max(alike, key=lambda one: likeness(key_of(one[1]), key))
+            if rest:
+                self.young[mark] = [one for one in alike if one is not came]
+        self.take(number, data, *came)
+
+    def take(self, copy: int, data: bytes, record: int, came: bytes) -> None:
+        """A packet as it came, and its copy."""
+        if came[4:8] not in self.indices:
+            if data[TTL] == came[TTL] - 1:
+                self.unknown[number_of(came[4:8])] += 1
+            return
+        way = came[4:8], data[4:8], self.route(data[DESTINATION])
+        place = self.places.get(way)
+        if place is None:
+            place = self.places[way] = len(self.hops)
+            self.hops.append(Hop(number_of(way[0]), number_of(way[1]), way[2]))
+        self.of[record], self.place[record] = copy, place
+
+    def is_second_sight(self, mark: bytes, key: bytes, index: bytes) -> bool:
+        """Whether a copy of one of several packets alike is that of one that left before, now at the device below: the
+        port of a bridge, or what carries a VLAN."""
+        counts = self.left.setdefault(mark, {}).setdefault(key, Counter())
+        is_second = any(number > counts[index] for other, number in counts.items() if other != index)
+        counts[index] += 1
+        return is_second
 
     def route(self, address: bytes) -> int:
         """The index of the interface to which the box file's routes lead, or 0."""

@@ -2,9 +2,8 @@
 later, packets that a switch mirrors twice, a clock that is set while the capture runs."""
 from __future__ import annotations
 
-from collections import Counter, deque
 from dataclasses import dataclass
-from typing import TYPE_CHECKING, Iterator
+from typing import TYPE_CHECKING, Iterator, Tuple
 
 from toolbox.packets import checksum, inverse
 
@@ -13,13 +12,17 @@ if TYPE_CHECKING:
     from toolbox.captures import Header
     from toolbox.flows import Flows
 
-# a flow goes on behind a jump if one end is heard so often in so many seconds before it, and behind it: what comes now
-# and then in a quiet hour doesn't
-NEAR, OFTEN = 10, 2
+# a flow goes on behind a jump if one end is heard twice in so many seconds before it, and twice behind it: what comes
+# now and then in a quiet hour doesn't
+NEAR = 10
+FEW_HEARD = 1 << 16  # tuples from which on those are forgotten that weren't heard for so long
 STEP_BACK = 1  # seconds: less is two processors that capture at once
 AT_ONCE = 10  # of a second: the part within which a switch mirrors a packet again, and no host repeats it
 WINDOW = 4096  # how many packets may come between the two
 SHARE, LEAST = 4, 2  # so many of all (one of four) are seen twice where a switch does it, and so many at least
+
+# The moments at which a tuple was heard before last, and last
+Heard = Tuple[int, int]
 
 
 @dataclass(frozen=True)
@@ -45,15 +48,16 @@ class Clock:
 
     def __init__(self, flows: Flows, box: Box, header: Header) -> None:
         self.flows, self.unit, self.limits = flows, header.fractions, box.limits()
-        self.least = min(box.idle.values()) * self.unit
+        self.least, self.never = min(box.idle.values()) * self.unit, -2 * NEAR * self.unit
         self.latest = self.earlier = 0
         self.back: Step | None = None
         self.jumps: list[Jump] = []
-        self.heard: deque[tuple[int, bytes]] = deque()  # the last seconds' tuples, with their moments
+        self.heard: dict[bytes, Heard] = {}
+        self.sweep_at = FEW_HEARD
         self.jump: Jump | None = None
         self.until = 0
-        self.before: Counter[bytes] = Counter()
-        self.behind: Counter[bytes] = Counter()
+        self.before: set[bytes] = set()  # what was heard twice just before the last jump
+        self.goes_on: set[bytes] = set()  # of that what was heard twice behind it
 
     def take(self, record: int, moment: int) -> None:
         """Takes the records in order."""
@@ -65,30 +69,33 @@ class Clock:
         elif self.latest and moment - self.latest >= self.least:
             self.end_jump()
             self.jump, self.until = Jump(record, (moment - self.latest) // self.unit, 0), moment + NEAR * self.unit
-            self.before = Counter(key for _, key in self.heard)
+            begin = self.latest - NEAR * self.unit
+            self.before = {key for key, (earlier, _) in self.heard.items() if earlier >= begin}
+            self.heard.clear()
         self.latest = max(moment, self.latest)
         if self.flows.of[record] and not self.flows.is_error(record):
             self.hear(self.flows.tuple_of(record))
 
     def hear(self, key: bytes) -> None:
-        heard, begin = self.heard, self.latest - NEAR * self.unit
-        heard.append((self.latest, key))
-        while heard[0][0] < begin:
-            heard.popleft()
-        if self.jump is not None and self.latest > self.until:
+        last = self.heard.get(key)
+        self.heard[key] = (last[1] if last else self.never, self.latest)
+        if len(self.heard) > self.sweep_at:
+            begin = self.latest - NEAR * self.unit
+            self.heard = {one: moments for one, moments in self.heard.items() if moments[1] >= begin}
+            self.sweep_at = max(FEW_HEARD, 2 * len(self.heard))
+        if self.jump is None:
+            return
+        if self.latest > self.until:
             self.end_jump()
-        if self.jump is not None and self.jump.seconds >= self.limits[key[12]]:
-            self.behind[key] += 1
+        elif last and key in self.before and self.jump.seconds >= self.limits[key[12]]:
+            self.goes_on.add(min(key, inverse(key)))
 
     def end_jump(self) -> None:
         """Keeps the last jump if something went on behind it."""
-        if self.jump is not None:
-            flows = {min(key, inverse(key)) for key, number in self.behind.items()
-                     if number >= OFTEN and self.before[key] >= OFTEN}
-            if flows:
-                self.jumps.append(Jump(self.jump.record, self.jump.seconds, len(flows)))
+        if self.jump is not None and self.goes_on:
+            self.jumps.append(Jump(self.jump.record, self.jump.seconds, len(self.goes_on)))
         self.jump = None
-        self.behind.clear()
+        self.goes_on = set()
 
 
 class Mirror:
