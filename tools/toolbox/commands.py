@@ -15,8 +15,8 @@ DONE, DIFFERS, REFUSED, TORN = 0, 1, 2, 7
 BY_SIGNAL = 128  # and the number of the signal that ended a command: 130 is Ctrl-C
 MOST_READ = 16 << 20  # bytes of a ruleset, a box file, a map of rules
 LONGEST_LINE = 1000  # of a remark, in characters
-ENDED_BY_SIGNALS = """A signal ends it with a status of 128 and the signal's number: 129 (a closed terminal), 130 (Ctrl-C)
-or 143 (kill). No folder stays then, and no program runs on."""
+ENDED_BY_SIGNALS = """A signal ends it with a status of 128 and the signal's number: 129 (a closed terminal), 130
+(Ctrl-C) or 143 (kill). No folder stays then, and no program runs on."""
 
 # Control characters, bytes that aren't UTF-8, and marks that turn the direction of text: a name or a log's prefix
 # mustn't steer the terminal that shows it.
