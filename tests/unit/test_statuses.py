@@ -20,7 +20,7 @@ FILES = {"compare": "compare-rulesets", "fit": "fit-ruleset"}
 CASES = TOP / "tools/cases"
 README = (TOP / "tools/README.md").read_text(encoding="utf-8")
 # a digit that stands for a status: behind it comes what it means
-MEANT = re.compile(r"(?<![\w.-])([0-9])(?=[ .;:,])")
+MEANT = re.compile(r"(?<![\w.-])([0-9])(?=[ .;:,\n])")
 OWN_PLACES = ("totals", "ports", "fails")  # objects whose fields are names of other things
 
 
