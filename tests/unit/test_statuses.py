@@ -21,7 +21,7 @@ CASES = TOP / "tools/cases"
 README = (TOP / "tools/README.md").read_text(encoding="utf-8")
 # a digit that stands for a status: behind it comes what it means
 MEANT = re.compile(r"(?<![\w.-])([0-9])(?=[ .;:,\n])")
-OWN_PLACES = ("totals", "ports", "fails")  # objects whose fields are names of other things
+OWN_PLACES = ("totals", "ports", "fails", "by_host")  # objects whose fields are names of other things
 
 
 def outputs(tool: str) -> list[str]:
