@@ -54,6 +54,7 @@ class Call:
 
 COMPARED = r"(?m)^[1-9]\d* of \d+ records? differ|^fails: |\"fails\": \{\"|::error |\"level\": \"error\""
 COMPARE = (DONE, DIFFERS, REFUSED, TORN)
+ROUTER, OR_ROUTER = "on the router|the router", COMPARE
 CALLS = (
     Call("compare-rulesets", (RULES, OTHER_RULES, BOX, CAPTURE), COMPARED, COMPARE),
     Call("compare-rulesets", ("--records", "--lines", OTHER_RULES, RULES, BOX, CAPTURE, CAPTURE), COMPARED, COMPARE),
@@ -66,11 +67,11 @@ CALLS = (
     Call("doctor", (BOX, CAPTURE), "(?m)^! ", (DONE, DIFFERS, REFUSED)),
     Call("doctor", (BOX, CAPTURE, RULES), "(?m)^! ", (DONE, DIFFERS, REFUSED)),
     Call("doctor", ("--json", BOX, CAPTURE, RULES), '"misleads": true', (DONE, DIFFERS, REFUSED)),
-    Call("why", ("2", RULES, BOX, CAPTURE), statuses=(DONE, REFUSED, TORN)),
-    Call("why", ("--all", "192.168.1.10 at 12:00", RULES, BOX, CAPTURE), statuses=(DONE, REFUSED, TORN)),
-    Call("annotate", (RULES, BOX, CAPTURE), statuses=(DONE, REFUSED, TORN)),
-    Call("annotate", ("--all", "--box", BOX, RULES, REPORT, CAPTURE), statuses=(DONE, REFUSED, TORN)),
-    Call("annotate", ("--map", MAP, RULES, REPORT), statuses=(DONE, REFUSED, TORN)),
+    Call("why", ("2", RULES, BOX, CAPTURE), ROUTER, OR_ROUTER),
+    Call("why", ("--all", "192.168.1.10 at 12:00", RULES, BOX, CAPTURE), ROUTER, OR_ROUTER),
+    Call("annotate", (RULES, BOX, CAPTURE), ROUTER, OR_ROUTER),
+    Call("annotate", ("--all", "--box", BOX, RULES, REPORT, CAPTURE), ROUTER, OR_ROUTER),
+    Call("annotate", ("--map", MAP, RULES, REPORT), ROUTER, OR_ROUTER),
     Call("align", ("--list", RULES, BOX, CAPTURE, OUT), "not settled", (DONE, DIFFERS, REFUSED, TORN)),
     Call("report-to-json", (RULES, BOX, CAPTURE), statuses=(DONE, REFUSED, TORN)),
     Call("report-to-json", (REPORT,), statuses=(DONE, REFUSED, TORN)),
@@ -405,7 +406,7 @@ class Trials:
         told = (ended.out + ended.err).decode("utf-8", "replace")
         if ended.status == DIFFERS and not re.search(call.differs or "(?!)", told):
             yield "status 1, and nothing differs"
-        if ended.status == REFUSED and not ended.err and b"nothing was compared" not in ended.out:
+        if ended.status == REFUSED and not ended.err and not re.search("(?m)^(?:nothing was|not) compared", told):
             yield "refused without a line"
         if has_escape(ended.err) or not call.is_data and has_escape(ended.out):
             yield "an escape is printed"
