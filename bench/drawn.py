@@ -501,7 +501,7 @@ class TableDrawing(Drawing):
     # ---- chains
 
     def cost(self, statement):
-        """What a statement adds to its chain's cost (section 10.3, N06)."""
+        """What a statement adds to its chain's cost (docs/CHECK.md, N06)."""
         verdicts = [statement]
         if isinstance(statement, VerdictMap):
             verdicts = [verdict for _, verdict in statement.lookup.pairs]

@@ -1,5 +1,5 @@
 """The surface: each public call with its signature, each wrong body that the prover has to reject, and where each
-worked row stands, found in the repository by the lists of docs/surface, and put on docs/SURFACE.md.
+worked row stands, found in the repository by the lists of docs/surface, and put on docs/lists/SURFACE.md.
 
 The lists say what there has to be; nothing in them is read from the crates. calls.txt has calls and types, edits.txt
 wrong bodies, rows.txt worked rows. In each a line `== NAME` begins a group, a line at the margin an entry; indented
@@ -14,7 +14,7 @@ from pathlib import Path
 
 from sources import TOP, Reader, parts, without_lifetimes, written
 
-PAGE = Path("docs/SURFACE.md")
+PAGE = Path("docs/lists/SURFACE.md")
 LISTS = Path("docs/surface")
 # `CRATE::PATH(TYPES) -> TYPE`, `CRATE::TYPE: TRAIT`, `CRATE::TYPE { MEMBERS }` or `CRATE::TYPE`.
 CALL = re.compile(r"(\w+)::([\w:]+)\((.*)\)(?: -> (.+))?")
@@ -238,7 +238,7 @@ def row_found(tree: Tree, entry: Entry) -> Found:
 INTRODUCTION = (
     "Written by `scripts/surface` from the lists in `docs/surface` and the crates; the gate compares it, and fails "
     "where a call, an edit or a row of the lists is missing. `Global` is where a value lies that a call makes. What "
-    "is otherwise than a caller might expect, and why, stands in [DECISIONS.md](DECISIONS.md)."
+    "is otherwise than a caller might expect, and why, stands in [DECISIONS.md](../DECISIONS.md)."
 )
 SECTIONS = (
     ("calls.txt", "Calls", "Grouped as a caller meets them. `scripts/contracts CRATE` prints what each promises.",
@@ -298,6 +298,7 @@ def main(words: list[str], top: Path = TOP) -> int:
     text, faults = page(tree)
     print(*(f"surface: {it}" for it in faults), sep="\n", end="\n" if faults else "")
     if words != ["--check"]:
+        (top / PAGE).parent.mkdir(parents=True, exist_ok=True)
         (top / PAGE).write_text(text, encoding="utf-8")
     elif tree.text(PAGE) != text:
         print(f"{PAGE} is stale: scripts/surface writes it")

@@ -1,4 +1,4 @@
-"""README's first ten minutes, word by word, from what was installed."""
+"""README's first ten minutes and its change, word by word, from what was installed."""
 from __future__ import annotations
 
 import os
@@ -9,22 +9,22 @@ from pathlib import Path
 from release.layout import SHARE
 from release.tests.trial import Trial, run
 
-HEADING = "## First ten minutes"
+HEADINGS = ("## First ten minutes", "## One change, from edit to load")
 BLOCK = re.compile(r"```sh\n(.*?)```", re.S)
 # A line of the block says behind `# prints` how its output begins.
 PRINTS = re.compile(r"# prints (.*)$")
 
 
 def lines_of(readme: str) -> list[str]:
-    section = readme.split(HEADING, 1)[-1].split("\n## ", 1)[0]
-    blocks = BLOCK.findall(section) if HEADING in readme else []
+    sections = [readme.split(it, 1)[1].split("\n## ", 1)[0] for it in HEADINGS if it in readme]
+    blocks = [block for section in sections for block in BLOCK.findall(section)]
     return [line for block in blocks for line in block.splitlines() if line.strip()]
 
 
 def test_minutes(trial: Trial, prefix: Path) -> None:
     """Does what README says in an empty folder, with /usr where the prefix is."""
     lines = lines_of((prefix / SHARE / "README.md").read_text(encoding="utf-8"))
-    trial.expect(len(lines) >= 5, f'README has no commands in "{HEADING}"')
+    trial.expect(len(lines) >= 5, f'README has no commands in "{HEADINGS[0]}"')
     folder = trial.folder / "ten-minutes"
     folder.mkdir()
     began = time.monotonic()
