@@ -119,7 +119,8 @@ class OfRuns(FilesCase):
     def test_what_the_box_answers_by_its_copies(self) -> None:
         self.box = Box(self.file("box.txt", BOX))
         to_box = asks(1)[:16] + bytes((192, 168, 1, 1)) + asks(1)[20:]
-        answer = to_box[:4] + b"\x77\x77" + to_box[6:12] + to_box[16:20] + to_box[12:16] + to_box[22:24] + to_box[20:22] + to_box[24:]
+        ends = to_box[16:20] + to_box[12:16] + to_box[22:24] + to_box[20:22]
+        answer = to_box[:4] + b"\x77\x77" + to_box[6:12] + ends + to_box[24:]
         frames = [(1, LAN, TO_US, to_box), (1, LAN, SENT_BY_US, answer), (2, LAN, TO_US, to_box),
                   (3, LAN, TO_US, asks(2))]
         flows = Flows(self.file("in.pcap", capture_of(frames)), self.box)
