@@ -6,8 +6,8 @@ from unittest import mock
 from made_elsewhere import PACKETS
 from support import BOX, LAN, LINK, FilesCase, capture_of
 from toolbox.boxes import Box
-from toolbox.captures import TO_US, records, write_header, write_record
-from toolbox.checkup_run import of_run, of_table
+from toolbox.captures import SENT_BY_US, TO_US, records, write_header, write_record
+from toolbox.checkup_run import answered_by_box, of_new, of_run, of_table
 from toolbox.flows import Flows
 from toolbox.packets import ACK, FIN, RST, SYN
 from toolbox.replay import Files, Replay
@@ -115,3 +115,15 @@ class OfRuns(FilesCase):
         self.assertEqual([(one.name, one.numbers) for one in found], [("new", {"flows": 1, "packets": 2})])
         answered = ((1.0, tcp(SYN)), (1.1, tcp(SYN | ACK, True)), (2.0, tcp(ACK)))
         self.assertEqual(list(of_run(self.replay(*answered, outcomes=("local", "passed", "local")))), [])
+
+    def test_what_the_box_answers_by_its_copies(self) -> None:
+        self.box = Box(self.file("box.txt", BOX))
+        to_box = asks(1)[:16] + bytes((192, 168, 1, 1)) + asks(1)[20:]
+        ends = to_box[16:20] + to_box[12:16] + to_box[22:24] + to_box[20:22]
+        answer = to_box[:4] + b"\x77\x77" + to_box[6:12] + ends + to_box[24:]
+        frames = [(1, LAN, TO_US, to_box), (1, LAN, SENT_BY_US, answer), (2, LAN, TO_US, to_box),
+                  (3, LAN, TO_US, asks(2))]
+        flows = Flows(self.file("in.pcap", capture_of(frames)), self.box)
+        self.assertEqual(answered_by_box(flows), {1: 2})
+        self.assertEqual([one.numbers for one in of_new(answered_by_box(flows))], [{"flows": 1, "packets": 2}])
+        self.assertEqual(list(of_new({1: 1})), [])

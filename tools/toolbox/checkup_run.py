@@ -49,7 +49,12 @@ def of_run(replay: Replay) -> Iterator[Finding]:
         yield Finding("ports", True, f"{answers} to ports that Linux chose and a run doesn't",
                       "they are dropped, or led to another host: replay what nftrun align makes of the capture",
                       {"records": len(elsewhere), "flows": count})
-    new = {flow: packets for flow, packets in kept_new(flows, replay).items() if packets > 1}
+    yield from of_new(kept_new(flows, replay))
+
+
+def of_new(delivered: Mapping[int, int]) -> Iterator[Finding]:
+    """The connections to the box itself that stay new in a run, of how many packets each has."""
+    new = {flow: packets for flow, packets in delivered.items() if packets > 1}
     if new:
         stay = "stays" if len(new) == 1 else "stay"
         yield Finding("new", True, f"{plural(len(new), 'connection')} to the box itself, with "
@@ -57,6 +62,12 @@ def of_run(replay: Replay) -> Iterator[Finding]:
                       "the box's answers aren't in it, so their later packets meet the rules for new connections, and "
                       "none for established ones: hits on input aren't those of the router",
                       {"flows": len(new), "packets": sum(new.values())})
+
+
+def answered_by_box(flows: Flows) -> Counter[int]:
+    """By flow how many packets came for the box itself, where the first answer is a copy of what it sent."""
+    answered = {flow for flow in flows.some() if flows.answered[flow] and not flows.of[flows.answered[flow]]}
+    return Counter(flow for flow, what in zip(flows.of, flows.role) if flow in answered and not what & (SIDE | ERROR))
 
 
 def kept_new(flows: Flows, replay: Replay) -> Counter[int]:

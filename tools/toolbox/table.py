@@ -7,7 +7,7 @@ from collections import Counter
 from dataclasses import dataclass, field
 from typing import TYPE_CHECKING, Iterator
 
-from toolbox.captures import LINK_LENGTHS, LINUX_SLL2, header_of, packet_at, records
+from toolbox.captures import LINK_LENGTHS, LINUX_SLL2, header_of, records
 from toolbox.flows import MOST_READ
 from toolbox.packets import ACK, ANSWER, FIN, RST, SYN, TCP, inverse, tuple_at
 from toolbox.replay import LOCAL, PASSED
@@ -69,18 +69,19 @@ class Table:
         lefts = replay.leaving_packets()
         for record, seconds, fraction, _, _, _, data in records(flows.path, MOST_READ):
             self.latest = max(self.latest, seconds * NANOSECONDS + fraction * NANOSECONDS // fractions)
-            self.expire()
+            if self.expiring and self.expiring[0][0] <= self.latest:
+                self.expire()
             frame = next(lefts)
-            at = packet_at(data, flows.link_type)
-            key = tuple_at(data, at) if flows.of[record] and at is not None else None
-            if key is not None and at is not None:
+            if flows.of[record] and not flows.is_error(record):
+                key, at = flows.tuple_of(record), LINK_LENGTHS[flows.link_type]
                 flags = data[at + 4 * (data[at] & 15) + 13] if key[12] == TCP else 0
-                self.take(record, key, flags, None if frame is None else tuple_at(frame, AT))
+                self.take(record, key, flags, frame)
             if record == self.until:
                 return
 
-    def take(self, record: int, key: bytes, flags: int, left: bytes | None) -> None:
-        """A packet that was looked up: it ends a connection, and if it went through, keeps or begins one."""
+    def take(self, record: int, key: bytes, flags: int, frame: bytes | None) -> None:
+        """A packet that was looked up, and the frame that left: it ends a connection, and if it went through, keeps or
+        begins one."""
         one, flags = self.found.get(key), flags & (FIN | SYN | RST | ACK)
         if one is not None and one.key == key and flags == SYN and one.is_closing():
             self.end(one)
@@ -88,7 +89,7 @@ class Table:
         if self.replay.outcomes[record] not in (PASSED, LOCAL) or one is None and key[12] == ANSWER[0]:
             return
         if one is None:
-            one = Connection(key, inverse(left or key))
+            one = Connection(key, inverse(frame and tuple_at(frame, AT) or key))
             self.found[one.reply] = self.found[key] = one
             self.live, self.begun = self.live + 1, self.begun + 1
             self.hosts[key[:4]] += 1
