@@ -20,7 +20,15 @@ def values_of(option: Named) -> tuple[str, ...] | None:
     """The words that an option takes; none where it is a file, None where it takes nothing."""
     if not option.takes:
         return None
+    if option.takes.startswith("{"):
+        return tuple(option.takes.strip("{}").split(","))
     return GRADES if option.name == "--at-most" else ()
+
+
+def valued_rows(helps: tuple[Help, ...]) -> str:
+    """For bash, the words behind each option that takes some."""
+    known = {option.name: values for it in helps for option in it.options for values in [values_of(option)] if values}
+    return "".join(f"\t{name}) options='{' '.join(values)}' ;;\n" for name, values in sorted(known.items()))
 
 
 def for_bash(helps: tuple[Help, ...], codes: tuple[str, ...]) -> str:
@@ -36,8 +44,11 @@ _nftrun() {{
 	case $subcommand in
 {rows}\thelp) options='{' '.join(it.word for it in helps)}' ;;
 	esac
-	if [ "$before" = --at-most ]; then
-		options='{' '.join(GRADES)}'
+	case $before in
+{valued_rows(helps)}	*) before= ;;
+	esac
+	if [ -n "$before" ]; then
+		:
 	elif [ "$subcommand" = explain ] && [[ $word != -* ]]; then
 		options='{' '.join(codes)}'
 	elif [ "$subcommand" != help ] && [[ $word != -* ]]; then

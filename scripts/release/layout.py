@@ -15,8 +15,8 @@ from release import completion, helps, manual, records, words
 
 # The documents that the program, the commands and the man pages name, and those that these link to for who uses them.
 DOCUMENTS = (
-    "BOX", "CAPTURES", "CHECK", "FAULTS", "FIT", "GLOSSARY", "HOSTILE", "LINUX", "NFT", "PAGE", "PERFORMANCE", "PROVED",
-    "REVIEW", "SPEC")
+    "BOX", "CAPTURES", "CHECK", "FAULTS", "FIT", "GLOSSARY", "HOSTILE", "JSON", "LINUX", "NFT", "PAGE", "PERFORMANCE",
+    "PROVED", "REVIEW", "SPEC")
 PAGES = ("README.md", "CHANGELOG.md", "tools/README.md", *(f"docs/{name}.md" for name in DOCUMENTS))
 LINK = re.compile(r"\[([^\]]*)\]\(([^)#\s]+)(#[^)]*)?\)")
 LIBEXEC, SHARE = "libexec/nftrun", "share/doc/nftrun"

@@ -30,6 +30,7 @@ TOOLS = (
     Tool("packet", "packet"),
     Tool("page", "page"),
     Tool("report-to-json", "report-to-json"),
+    Tool("start", "start"),
     Tool("why", "why"),
 )
 

@@ -12,7 +12,8 @@ from made_elsewhere import ROUTER, STATION
 from support import BOX, FilesCase, masquerade
 from toolbox.advice import advice
 from toolbox.boxes import Box
-from toolbox.checkup import Checkup, of_run
+from toolbox.checkup import Checkup
+from toolbox.checkup_run import of_run
 from toolbox.commands import Refused
 from toolbox.differences import BLOCKED, Groups, Sight, differing
 from toolbox.flows import Flows

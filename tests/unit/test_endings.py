@@ -88,6 +88,16 @@ class Ending(FilesCase):
             with self.assertRaises(ProcessLookupError):
                 os.kill(pid, 0)
 
+    def test_a_signal_while_a_step_runs(self) -> None:
+        first = self.folder / "first"
+        with self.start("start", self.rules, self.box, self.input, str(first)) as child:
+            pid = self.pid()
+            child.send_signal(signal.SIGTERM)
+            self.assertEqual((child.wait(60), child.communicate()), (128 + signal.SIGTERM, (b"", b"")))
+        self.assertEqual((list(self.made.iterdir()), list(first.iterdir())), ([], []))
+        with self.assertRaises(ProcessLookupError):
+            os.kill(pid, 0)
+
     def refused(self, command: str) -> str:
         """The one line on standard error with which a command of a shell ends, with status 2."""
         words = ["bash", "-c", f"PATH={TOP}/tools:$PATH; {command}"]

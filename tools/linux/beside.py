@@ -76,6 +76,8 @@ class Beside:
         self.ruleset = read_ruleset(options.rules)
         self.link_type = header_of(options.capture).link_type
         self.records = list(moments(options.capture, options.records))
+        if not self.records:
+            raise Refused(f"{options.capture}: nothing was compared: no whole record is in it")
         self.run = Run(program.find_program(), options.rules, options.box, options.capture)
         if kernel:
             kernel(self)

@@ -10,6 +10,7 @@ from toolbox.rulesets import read_ruleset
 
 AT = LINK_LENGTHS[LINUX_SLL2]
 SMALLEST = AT + 28
+MOST_DIGITS = 40  # of both numbers of a counter
 # `same`, `but_ports`: how many packets left alike on both. `ours`, `theirs`: descriptions of those that have no like
 Likeness = namedtuple("Likeness", "same but_ports ours theirs")
 
@@ -70,7 +71,10 @@ def listed_counters(path):
         starts = [place for place, word in enumerate(words[:-4])
                   if word == "counter" and words[place + 1] == "packets" and words[place + 3] == "bytes"]
         for which, place in enumerate(starts, 1):
-            yield RuleCounter(rule.chain, rule.number, which, int(words[place + 2]), int(words[place + 4]))
+            packets, size = words[place + 2], words[place + 4]
+            if not packets.isdecimal() or not size.isdecimal() or len(packets + size) > MOST_DIGITS:
+                raise Refused(f"{path}: line {rule.line}: a counter without numbers")
+            yield RuleCounter(rule.chain, rule.number, which, int(packets), int(size))
 
 
 def differing(counters, listing):

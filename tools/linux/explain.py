@@ -3,6 +3,7 @@ import re
 from collections import namedtuple
 
 from linux.differences import BYTES, OUTCOME, first_differing
+from linux.frames import BY_LOOPBACK
 from linux.history import is_lone_syn
 from toolbox.packets import (
     ACK, ANSWER, ASK, FIN, ICMP, ICMP_ERRORS, NO_PORT, RST, SYN, TCP, UDP, checksum, destination_end, source_end,
@@ -82,6 +83,8 @@ def section_of(case):
 def by_packet(case):
     """What nftrun drops before any rule, or for what no rule says."""
     outcome = case.said.outcome
+    if case.told.sending.why == BY_LOOPBACK:
+        return "box-sends"
     if outcome in ("fragment", "transport"):
         return {"fragment": "fragments"}.get(outcome, outcome)
     if outcome in ("notip", "version") and case.packet[0] >> 4 == 6:

@@ -1,13 +1,14 @@
 """How a record is put on a cable: by which interface it enters, in which frame, or why Linux wouldn't get it."""
 from collections import namedtuple
 
-from linux.namespaces import station
+from linux.namespaces import LOOPBACK, station
 from toolbox.captures import (
     BROADCAST, ETHERNET, LINK_LENGTHS, LINUX_SLL2, MULTICAST, OTHER_STATION, SENT_BY_US, TO_US)
 
 IPV4, IPV6 = b"\x08\x00", b"\x86\xdd"
 EVERY_STATION = b"\xff" * 6
 LARGEST_PACKET = 65535
+BY_LOOPBACK = "it went by lo, by which the box talks to itself"
 
 # `frame` is None where nothing is sent; `why` says it then
 Sending = namedtuple("Sending", "interface frame packet why")
@@ -35,6 +36,8 @@ def sending_of(data, link_type, box, lab):
         return nothing("it carries IPv6, and no table of family inet is there to see it")
     if interface not in box.names:
         return nothing("it entered by an interface that the box file lacks")
+    if box.names[interface] == LOOPBACK:
+        return nothing(BY_LOOPBACK)
     if to == SENT_BY_US:
         return nothing("the box sent it")
     if not packet:

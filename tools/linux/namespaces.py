@@ -11,6 +11,7 @@ from toolbox.commands import Refused
 
 NEW_NET = 0x40000000
 LARGEST_MTU = 65535
+LOOPBACK, LOOPBACK_INDEX = "lo", 1
 ALL_PROTOCOLS = 3
 SETTING = re.compile(r"net\.(?:ipv4|ipv6|netfilter|core)(?:\.[A-Za-z0-9_-]+)+")
 libc = ctypes.CDLL(None, use_errno=True)
@@ -54,8 +55,8 @@ def enter_new():
 
 
 class Lab:
-    """The namespaces with a cable for each interface of the box; `cables` are the sockets of the peer's ends, by the
-    interface's index. The process stays in the router's."""
+    """The namespaces with a cable for each interface of the box but lo, which each has of its own; `cables` are the
+    sockets of the peer's ends, by the interface's index. The process stays in the router's."""
 
     def __init__(self, box, with_ipv6):
         self.box, self.with_ipv6 = box, with_ipv6
@@ -89,14 +90,17 @@ class Lab:
 
     def check_names(self):
         for index, name in self.box.names.items():
-            if index == 1 or name == "lo":
-                raise Refused(f"the box file's interface {name} has the index or the name of a namespace's own lo")
+            if (index == LOOPBACK_INDEX) != (name == LOOPBACK):
+                raise Refused(f"the box file's interface {name} has the index or the name of a namespace's own lo, which "
+                              f"is {LOOPBACK_INDEX}")
 
     def lay_cables(self):
         # the process is in the peer's namespace
         write_setting("ipv4/ip_forward", 0)
         router = f"/proc/{os.getpid()}/fd/{self.router}"
         for number, (index, name) in enumerate(self.box.names.items(), 1):
+            if name == LOOPBACK:
+                continue
             self.numbers[index] = number
             far = f"far{number}"
             command("ip", "link", "add", far, "address", colons(station(1, number)), "mtu", str(LARGEST_MTU),
@@ -136,6 +140,8 @@ class Lab:
         write_setting("ipv4/icmp_msgs_per_sec", 1000000)
         write_setting("ipv4/icmp_msgs_burst", 1000000)
         for name in self.box.indices:
+            if name == LOOPBACK:
+                continue
             command("ip", "link", "set", name, "arp", "off", "up")
             write_setting(f"ipv4/conf/{name}/send_redirects", 0)
             write_setting(f"ipv4/conf/{name}/rp_filter", 0)
@@ -145,6 +151,10 @@ class Lab:
         """The routes of the box file, of equal prefixes the first one first. There are no gateways."""
         for metric, (kind, what, name) in enumerate(self.box.lines, 1):
             prefix = what
+            if kind == "interface" and name == LOOPBACK:
+                # its own is there already, and what it has is routed by the table of local addresses
+                command("ip", "addr", "replace", what, "dev", name)
+                continue
             if kind == "interface":
                 command("ip", "addr", "add", what, "dev", name, "noprefixroute")
                 prefix = network_of(what)

@@ -1,6 +1,7 @@
 """What to do next about a record, by how it ended."""
 from __future__ import annotations
 
+import contextlib
 import re
 from ipaddress import IPv4Address
 from typing import TYPE_CHECKING
@@ -118,7 +119,8 @@ def translated_target(why: Why, key: bytes) -> bytes | None:
         rule = why.ruleset.rule(decision.chain, decision.rule)
         if decision.verdict == "dnat" and rule:
             named = re.search(r"\bto ([0-9.]+)(?: ?: ?([0-9]+))?$", rule.text.partition(" comment ")[0])
-            if named:
-                port = key[10:12] if named[2] is None else int(named[2]).to_bytes(2, "big")
-                return IPv4Address(named[1]).packed + port
+            if named and len(named[2] or "") <= 5:
+                port = int.from_bytes(key[10:12], "big") if named[2] is None else int(named[2])
+                with contextlib.suppress(ValueError, OverflowError):
+                    return IPv4Address(named[1]).packed + port.to_bytes(2, "big")
     return None

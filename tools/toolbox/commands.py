@@ -15,6 +15,8 @@ DONE, DIFFERS, REFUSED, TORN = 0, 1, 2, 7
 BY_SIGNAL = 128  # and the number of the signal that ended a command: 130 is Ctrl-C
 MOST_READ = 16 << 20  # bytes of a ruleset, a box file, a map of rules
 LONGEST_LINE = 1000  # of a remark, in characters
+ENDED_BY_SIGNALS = """A signal ends it with a status of 128 and the signal's number: 129 (a closed terminal), 130
+(Ctrl-C) or 143 (kill). No folder stays then, and no program runs on."""
 
 # Control characters, bytes that aren't UTF-8, and marks that turn the direction of text: a name or a log's prefix
 # mustn't steer the terminal that shows it.
@@ -53,8 +55,11 @@ def is_closed(stream: str) -> bool:
 
 
 def warn(line: str) -> None:
-    """A line on standard error, if there is one."""
+    """A line on standard error, if there is one, behind what was said on standard output before."""
     if not is_closed("__stderr__"):
+        if not is_closed("__stdout__"):
+            with contextlib.suppress(OSError):
+                sys.stdout.flush()
         print(printable(line), file=sys.stderr)
 
 
@@ -72,8 +77,8 @@ class Parser(argparse.ArgumentParser):
 
 def command_line(name: str, description: str) -> argparse.ArgumentParser:
     """A parser of the word `name` behind nftrun that shows `description` as it is written."""
-    return Parser(
-        prog=f"nftrun {name}", description=description, formatter_class=argparse.RawDescriptionHelpFormatter)
+    return Parser(prog=f"nftrun {name}", description=description, epilog=ENDED_BY_SIGNALS,
+                  formatter_class=argparse.RawDescriptionHelpFormatter)
 
 
 # Ending by a signal

@@ -4,11 +4,11 @@ from __future__ import annotations
 import filecmp
 from array import array
 from collections import Counter
-from dataclasses import dataclass
+from dataclasses import dataclass, replace
 from typing import TYPE_CHECKING, Iterator, Sequence, Tuple
 
-from toolbox.captures import records
-from toolbox.packets import ANSWER, ASK, TCP, UDP, address_text, describe, inverse
+from toolbox.captures import LINK_LENGTHS, LINUX_SLL2, records
+from toolbox.packets import ANSWER, ASK, TCP, UDP, address_text, describe, inverse, without_ports
 from toolbox.replay import ELSEWHERE, LOCAL, NOT_SENT, PASSED
 from toolbox.reports import Decision, event_of, events_of_some
 from toolbox.rulesets import TRANSLATIONS, read_ruleset
@@ -19,7 +19,12 @@ if TYPE_CHECKING:
     from toolbox.rulemap import RuleMap
 
 OPENED, BLOCKED, REWRITTEN, OTHERWISE = "opened", "blocked", "rewritten only", "dropped otherwise"
-KINDS = ("", OPENED, BLOCKED, REWRITTEN, OTHERWISE)
+# The last: what leaves differs in ports alone, as a tracker chooses them
+KINDS = ("", OPENED, BLOCKED, REWRITTEN, OTHERWISE, REWRITTEN)
+OTHER_PORTS = 5
+SAME_RULES = "translated by the same rules, to other ports, since other flows have them or leave them"
+SAME_RULES_OTHER_MAPS = "the same rules, to another address or interface, as their maps or an earlier mapping have it"
+OUT_LINK = LINK_LENGTHS[LINUX_SLL2]
 DECIDE = ("accept", "drop", *TRANSLATIONS)
 MOST_TOLD_APART = 10_000  # hosts and ports of a group
 MOST_RANGES, MOST_IN_FILTER = 40, 20
@@ -27,12 +32,15 @@ MOST_RANGES, MOST_IN_FILTER = 40, 20
 
 @dataclass(frozen=True)
 class Told:
-    """A decision of a rule or policy; `number` is None of a policy, `chain` None where no rule decided."""
+    """A decision of a rule or policy; `number` is None of a policy, `chain` None where no rule decided. `file` and
+    `line` are where it is written, if it is."""
 
     chain: str | None
     number: int | None
     verdict: str
     text: str
+    file: str | None = None
+    line: int | None = None
 
 
 # What the rulesets made of a record: its events in each run, and how it ended in each
@@ -40,10 +48,11 @@ Made = Tuple[Tuple[bytes, ...], Tuple[bytes, ...], str, str]
 
 
 class Sight:
-    """What one ruleset makes of the records, read beside the capture."""
+    """What one ruleset makes of the records, read beside the capture. `name` is what the ruleset is called, where that
+    isn't its path."""
 
-    def __init__(self, replay: Replay, origins: RuleMap | None = None) -> None:
-        self.replay = replay
+    def __init__(self, replay: Replay, origins: RuleMap | None = None, name: str | None = None) -> None:
+        self.replay, self.name = replay, name or replay.rules
         self.ruleset = read_ruleset(replay.rules)
         self.origins = origins  # the map of a fitted ruleset
         self.known: dict[bytes, Told | None] = {}
@@ -61,8 +70,9 @@ class Sight:
         """A decision as the operator's text has it."""
         origin = self.origins and self.origins.origin(one.chain, one.rule)
         if origin:
-            return Told(origin.chain, origin.rule, one.verdict, origin.text)
-        return Told(one.chain, one.rule, one.verdict, self.ruleset.text_of(one.chain, one.rule))
+            return Told(origin.chain, origin.rule, one.verdict, origin.text, origin.file, origin.line)
+        text, line = self.ruleset.text_of(one.chain, one.rule), self.ruleset.line_of(one.chain, one.rule)
+        return Told(one.chain, one.rule, one.verdict, text, self.name, line)
 
     def decisions(self, wanted: array[int]) -> Iterator[tuple[tuple[bytes, ...], str]]:
         """Of each wanted record in order its events, and how it ended."""
@@ -84,7 +94,7 @@ def differing(old: Replay, new: Replay) -> bytearray:
         after = is_sent_now and new_places[new.outcomes[record]]
         if before and after:
             if left != leaves or before != after:
-                what[record] = 3
+                what[record] = OTHER_PORTS if before == after and are_alike_but_ports(left, leaves) else 3
         elif after:
             what[record] = 1
         elif before:
@@ -94,6 +104,12 @@ def differing(old: Replay, new: Replay) -> bytearray:
         elif is_sent and old.numbers[old.outcomes[record]] != new.numbers[new.outcomes[record]]:
             what[record] = 4
     return what
+
+
+def are_alike_but_ports(left: bytes | None, leaves: bytes | None) -> bool:
+    """Whether two frames that left are by one interface, and one packet but for its ports."""
+    return (left is not None and leaves is not None and left[:OUT_LINK] == leaves[:OUT_LINK]
+            and without_ports(left[OUT_LINK:]) == without_ports(leaves[OUT_LINK:]))
 
 
 def through_places(replay: Replay) -> list[int]:
@@ -116,7 +132,7 @@ def cause(kind: str, before: Sequence[Told], after: Sequence[Told], outcome_befo
         return stopped_by(before, outcome_before), stopped_by(after, outcome_after)
     gone, come = parted(before, after), parted(after, before)
     if not gone and not come and outcome_before == outcome_after:
-        same = Told(None, None, outcome_after, "the same rules; other ports, since other flows have them or leave them")
+        same = Told(None, None, outcome_after, SAME_RULES)
         return same, same
     return (gone[0] if gone else outcome(outcome_before)), (come[0] if come else outcome(outcome_after))
 
@@ -136,6 +152,11 @@ def blocked_by(before: Sequence[Told], after: Sequence[Told], outcome_before: st
                    or [one for one in gone if one.number is not None or one.verdict != "accept"]
                    or list(before[-1:]) or [outcome(outcome_before)])
     return let_through[0], stopped
+
+
+def translations(decisions: Sequence[Told]) -> list[tuple[str | None, str, str]]:
+    """Which rules translated, by their texts."""
+    return [(one.chain, one.verdict, one.text) for one in decisions if one.verdict in TRANSLATIONS]
 
 
 def parted(decisions: Sequence[Told], others: Sequence[Told]) -> list[Told]:
@@ -179,6 +200,11 @@ class Group:
         elif len(self.ranges) <= MOST_RANGES:
             self.ranges.append([record, record])
 
+    @property
+    def has_other_ports_alone(self) -> bool:
+        """Whether all of it leaves by the same rules, and otherwise in nothing but ports."""
+        return self.kind == REWRITTEN and self.old.chain is None and self.old.text == SAME_RULES
+
     def ports_text(self) -> list[tuple[str, int]]:
         """[("tcp 443", 12), ..], the most frequent first"""
         by_number = sorted(self.ports.items(), key=lambda one: (-one[1], one[0]))
@@ -215,7 +241,7 @@ class Groups:
         self.flows_of, self.sights, self.what = flows, (old, new), what
         self.all: list[Group] = []
         self.by_key: dict[tuple[str, Told, Told], Group] = {}
-        self.causes: dict[tuple[str, Made], tuple[Told, Told]] = {}
+        self.causes: dict[tuple[int, Made], tuple[Told, Told]] = {}
         self.flow_counts: Counter[str] = Counter()
         # of each flow its last group (from 1) and the kinds it is in; and what is in several groups
         self.last, self.kinds = array("I", bytes(4 * len(flows.first))), bytearray(len(flows.first))
@@ -237,7 +263,7 @@ class Groups:
         unsent = [sight.replay for sight in self.sights if sight.replay.to[record] == NOT_SENT]
         group = self.all[self.last[flow] - 1] if unsent and self.last[flow] else None
         if group is None:
-            key = kind, *self.cause_of(kind, made)
+            key = kind, *self.cause_of(self.what[record], made)
             group = self.by_key.get(key)
         if group is None:
             at = self.flows_of.at
@@ -251,12 +277,17 @@ class Groups:
         group.elsewhere += any(one.cut[flow] == ELSEWHERE for one in unsent)
         return group
 
-    def cause_of(self, kind: str, made: Made) -> tuple[Told, Told]:
-        key = kind, made
+    def cause_of(self, what: int, made: Made) -> tuple[Told, Told]:
+        key = what, made
         if key not in self.causes:
             before, after = (
                 [told for told in map(sight.told, events) if told] for sight, events in zip(self.sights, made[:2]))
-            self.causes[key] = cause(kind, before, after, *made[2:])
+            found = cause(KINDS[what], before, after, *made[2:])
+            if what == OTHER_PORTS and translations(before) == translations(after):
+                found = (Told(None, None, made[3], SAME_RULES),) * 2
+            elif found[0].text == SAME_RULES:
+                found = (replace(found[0], text=SAME_RULES_OTHER_MAPS),) * 2
+            self.causes[key] = found
         return self.causes[key]
 
     def begins(self, flow: int, group: Group) -> bool:

@@ -10,7 +10,8 @@ from array import array
 from typing import TYPE_CHECKING, Mapping, Tuple
 
 from toolbox.captures import (
-    ETHERNET, FILE_HEADER, IPV4, LINK_LENGTHS, LINUX_SLL2, PROTOCOL_AT, SENT_BY_US, TO_US, header_of, is_torn, pieces)
+    ETHERNET, FILE_HEADER, IPV4, LINK_LENGTHS, LINUX_SLL2, PROTOCOL_AT, RECORD_HEADER, SENT_BY_US, TO_US, header_of,
+    is_torn, pieces)
 from toolbox.packets import (
     ACK, FIN, RST, SYN, TCP, destination_end, error_tuple_at, identity, inverse, source_end, tuple_at)
 
@@ -48,7 +49,7 @@ class Flows:
 
     def __init__(self, path: str, box: Box, use_copies: bool = True) -> None:
         header = header_of(path)
-        self.path, self.link_type, self.aligned = path, header.link_type, header.aligned
+        self.path, self.link_type, self.aligned, self.order = path, header.link_type, header.aligned, header.order
         self.at = LINK_LENGTHS[header.link_type]
         self.of, self.role, self.seen, self.offset = array("I", [0]), bytearray(1), array("I", [0]), array("Q", [0])
         self.tuples = [bytes(13)]
@@ -92,6 +93,12 @@ class Flows:
     def tuple_of(self, record: int) -> bytes:
         """The tuple of a record of a flow."""
         return self.tuples[self.seen[record]]
+
+    def seconds(self, record: int) -> int:
+        """The second of a record's moment."""
+        with open(self.path, "rb") as file:
+            file.seek(self.offset[record] - RECORD_HEADER)
+            return int.from_bytes(file.read(4), "little" if self.order == "<" else "big")
 
     def answers_to_box(self) -> list[int]:
         """The records that answer packets of the box's own, which aren't in a run."""

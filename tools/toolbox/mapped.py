@@ -73,6 +73,10 @@ class MappedRules:
     def is_never(self, old: OldRule) -> bool:
         return all(rule.place in self.reasons for rule in old.rules)
 
+    def reason(self, old: OldRule) -> str:
+        """Why no packet can meet the rule: of each rule that it became, where they differ."""
+        return "; ".join(dict.fromkeys(self.reasons[rule.place] for rule in old.rules))
+
     def is_unmet(self, old: OldRule) -> bool:
         seen = [rule for rule in old.rules if self.hits.number(rule) is not None]
         return bool(seen) and not self.is_never(old) and all(self.hits.is_unmet(rule) for rule in seen)
@@ -97,4 +101,4 @@ class MappedRules:
             say()
             say(f"{plural(len(never), 'rule')} that no packet of a run can meet")
             for old in never:
-                say(f"  {old.file}:{old.line}: {old.chain} {old.number}: {old.text}")
+                say(f"  {old.file}:{old.line}: {old.chain} {old.number}: {old.text}  ({self.reason(old)})")

@@ -41,11 +41,12 @@ def run(
     return status == TORN
 
 
-def run_child(words: Sequence[str]) -> tuple[int, str]:
-    """The status of a program, and what it said on standard error. A signal that ends this command ends it, too."""
+def run_child(words: Sequence[str], output: int = subprocess.DEVNULL) -> tuple[int, str]:
+    """The status of a program, and what it said on standard error; `output` is the file that its own output goes to.
+    A signal that ends this command ends it, too."""
     with signals.held():
         try:
-            child = subprocess.Popen(words, stdin=subprocess.DEVNULL, stdout=subprocess.DEVNULL, stderr=subprocess.PIPE)
+            child = subprocess.Popen(words, stdin=subprocess.DEVNULL, stdout=output, stderr=subprocess.PIPE)
         except OSError as error:
             raise Refused(f"{words[0]}: {error.strerror}") from None
         with child:

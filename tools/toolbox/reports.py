@@ -9,14 +9,17 @@ from typing import BinaryIO, Dict, Iterable, Iterator
 from toolbox.commands import Refused
 
 CHUNK = 1 << 20
+MOST_DIGITS = 20
 # a record of a trace: the lines of its events, its number, its outcome
 TRACED = re.compile(rb"^((?:(?:trace|log) .*\n)*?)trace ([0-9]+) outcome (\w+)\n", re.MULTILINE)
 OUTCOME = re.compile(rb"\ntrace [0-9]+ outcome (\w+)")
 EVENT = re.compile(rb"^(trace|log) [0-9]+ (.*)$", re.MULTILINE)
-TOTAL = re.compile(rb"[a-z]+(?: [a-z]+)? [0-9]+")
-COUNTER = re.compile(rb"counter (\S+ \S+ \S+) ([0-9]+) ([0-9]+) packets ([0-9]+) bytes ([0-9]+)")
-DECISION = re.compile(rb"(\S+ \S+ \S+) ([0-9]+|policy) (.+)", re.DOTALL)
-LOGGED = re.compile(rb"(\S+ \S+ \S+) ([0-9]+)(?: (.*))?", re.DOTALL)
+# no number of a report has more than 20 digits
+TOTAL = re.compile(rb"[a-z]+(?: [a-z]+)? [0-9]{1,20}")
+COUNTER = re.compile(
+    rb"counter (\S+ \S+ \S+) ([0-9]{1,20}) ([0-9]{1,20}) packets ([0-9]{1,20}) bytes ([0-9]{1,20})")
+DECISION = re.compile(rb"(\S+ \S+ \S+) ([0-9]{1,20}|policy) (.+)", re.DOTALL)
+LOGGED = re.compile(rb"(\S+ \S+ \S+) ([0-9]{1,20})(?: (.*))?", re.DOTALL)
 
 # what became of a packet that nothing dropped
 THROUGH = ("passed", "local")
@@ -101,7 +104,7 @@ def traced_records(path: str) -> Iterator[tuple[bytes, bytes]]:
 
 
 def number_of(word: bytes) -> int:
-    if not word.isdigit():
+    if not word.isdigit() or len(word) > MOST_DIGITS:
         raise Refused(f"no line of a report: record {text_of(word)}")
     return int(word)
 

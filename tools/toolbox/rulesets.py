@@ -39,6 +39,7 @@ ENDS = ("accept", "drop", "return", "goto")
 VERDICTS = (*ENDS, "continue", "jump", "vmap")
 TRANSLATIONS = ("snat", "dnat", "masquerade", "redirect")
 PRIORITIES = {"raw": -300, "mangle": -150, "dstnat": -100, "filter": 0, "security": 50, "srcnat": 100}
+MOST_DIGITS = 20  # of a number that any ruleset has
 EARLY = -200  # filter chains of prerouting up to here run before connections are looked for
 
 
@@ -70,6 +71,7 @@ class Chain:
         self.type: str | None = None
         self.hook: str | None = None
         self.priority, self.policy = 0, "accept"
+        self.policy_line = line
         self.rules: list[Rule] = []
 
     @property
@@ -146,6 +148,14 @@ class Ruleset:
         rule = self.rule(chain, number)
         return rule.text if rule else f"rule {number}"
 
+    def line_of(self, chain: str, number: int | None) -> int | None:
+        """The line of a rule as a report names it, or of the chain's head where `number` is None."""
+        if number is None:
+            there = self.by_name.get(chain)
+            return there.policy_line if there else None
+        rule = self.rule(chain, number)
+        return rule.line if rule else None
+
 
 def read_ruleset(path: str) -> Ruleset:
     return Ruleset(read_text(path))
@@ -218,6 +228,7 @@ def chain_of(name: str, line: int, tokens: list[Token]) -> Chain:
     for piece in lines_of_chain(tokens):
         if piece[0].text in ("type", "policy"):
             chain.take_head([token.text for token in piece])
+            chain.policy_line = piece[0].line
         elif piece[0].text != "comment":
             chain.rules.append(Rule(name, len(chain.rules) + 1, piece))
     return chain
@@ -247,7 +258,7 @@ def priority_of(texts: Sequence[str]) -> int:
             sign = -1 if text == "-" else 1
         elif text in PRIORITIES:
             total += PRIORITIES[text]
-        elif text.isdecimal():
+        elif text.isdecimal() and len(text) <= MOST_DIGITS:
             total += sign * int(text)
     return total
 

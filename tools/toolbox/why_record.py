@@ -4,6 +4,7 @@ from __future__ import annotations
 import struct
 from typing import TYPE_CHECKING
 
+from toolbox.asked import Asked, chosen_of
 from toolbox.boxes import Box
 from toolbox.captures import (
     LINK_LENGTHS, LINUX_SLL2, RECORD_HEADER, SENT_BY_US, header_of, interface_of, packet_at, records)
@@ -11,26 +12,40 @@ from toolbox.commands import Refused
 from toolbox.flows import Flows
 from toolbox.packets import TCP, describe, destination_end, end_text, flags_text, inverse, source_end, tuple_at
 from toolbox.replay import AS_CAPTURED, Replay
-from toolbox.reports import Decision, event_of, events_of_some
+from toolbox.reports import THROUGH, Decision, event_of, events_of_some
+from toolbox.router import Router
 from toolbox.rulesets import TRANSLATIONS, read_ruleset
 
 if TYPE_CHECKING:
+    from toolbox.asked import Found
     from toolbox.replay import Files
 
 OUT_LINK = LINK_LENGTHS[LINUX_SLL2]
 
 
 class Why:
-    """What is known of one record after a run of the capture as it is."""
+    """What is known of one record after a run of the capture as it is. `record` is its number, or what is known of
+    it; `fitting` are then the records that fit, and `dropped` those of them that the run drops."""
 
-    def __init__(self, record: int, rules: str, box: str, capture: str, program: str, files: Files) -> None:
-        self.record, self.capture = record, capture
+    def __init__(self, record: int | Asked, rules: str, box: str, capture: str, program: str, files: Files) -> None:
+        self.capture = capture
         self.ruleset, self.box, self.header = read_ruleset(rules), Box(box), header_of(capture)
         self.link_type = self.header.link_type
         self.flows = Flows(capture, self.box)
-        if not 1 <= record <= self.flows.count:
+        self.fitting: list[Found] = []
+        self.dropped: set[int] = set()
+        if isinstance(record, Asked):
+            self.fitting = record.found(capture, self.header)
+            if not self.fitting:
+                raise Refused(f"{capture}: no record fits {record.text}")
+        elif not 1 <= record <= self.flows.count:
             raise Refused(f"{capture} has {self.flows.count} records, and no record {record}")
         self.replay = Replay(program, rules, box, self.flows, files, cuts=False, as_captured=True)
+        if isinstance(record, Asked):
+            self.dropped = {one.record for one in self.fitting
+                            if not one.is_copy and self.replay.outcome(one.record) not in THROUGH}
+            record = chosen_of(record, self.fitting, self.dropped).record
+        self.record = record
         self.read_record()
         self.read_events()
         self.flow = self.flows.of[record]
@@ -73,6 +88,17 @@ class Why:
         frame = self.left.get(self.record)
         self.key_left = None if frame is None else tuple_at(frame, OUT_LINK)
 
+    def router(self) -> Router:
+        """What the router did otherwise with the packets of this flow; of a copy, with those of the flow that left so.
+        """
+        router = Router(self.flows, self.box, self.replay, self.members)
+        came = router.copies.record_of(self.record)
+        if came is None:
+            return router
+        flow = self.flows.of[came]
+        members = [number for number, of in enumerate(self.flows.of) if flow and of == flow] or [came]
+        return Router(self.flows, self.box, self.replay, members, router.copies)
+
     def behind_mapping(self) -> bytes | None:
         """The inner end that has this packet's destination as its external one in this run, or None."""
         if self.key is None:
@@ -91,14 +117,8 @@ class Why:
             flow = value >> 1
             if left and flow != self.flow and inverse(left) == self.key:
                 last = max((number for number, of in enumerate(self.flows.of[:self.record]) if of == flow), default=0)
-                return (flow, self.seconds - self.seconds_of(last)) if last else None
+                return (flow, self.seconds - self.flows.seconds(last)) if last else None
         return None
-
-    def seconds_of(self, record: int) -> int:
-        with open(self.capture, "rb") as file:
-            file.seek(self.flows.offset[record] - RECORD_HEADER)
-            seconds: int = struct.unpack(self.header.order + "I", file.read(4))[0]
-            return seconds
 
     def moment(self, seconds: int | None = None, fraction: int | None = None) -> str:
         digits = len(str(self.header.fractions)) - 1

@@ -77,4 +77,5 @@ def capture(kind):
     return b"".join(parts)
 
 
-sys.stdout.buffer.write(capture(sys.argv[1]))
+if __name__ == "__main__":
+    sys.stdout.buffer.write(capture(sys.argv[1]))

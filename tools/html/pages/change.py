@@ -1,13 +1,15 @@
 """What another ruleset changes, as compare-rulesets finds it, for the page's beginning."""
 from pages.texts import number, plural, shown
 from toolbox.differences import BLOCKED, OPENED, OTHERWISE, REWRITTEN, Groups, Sight, differing
+from toolbox.evidence import Evidence
 from toolbox.flows import LEARNED, Flows
 from toolbox.packets import TCP, address_text
 from toolbox.program import find_program
 from toolbox.replay import STOPPED, Files, Replay
+from toolbox.router import Router
 
 KINDS = (OPENED, BLOCKED, REWRITTEN, OTHERWISE)
-MOST_GROUPS, MOST_HOSTS, MOST_PORTS, MOST_RECORDS = 60, 6, 8, 200
+MOST_GROUPS, MOST_HOSTS, MOST_PORTS, MOST_RECORDS, MOST_UNMET = 60, 6, 8, 200, 20
 TITLES = {OPENED: "Opened", BLOCKED: "Blocked", REWRITTEN: "Rewritten only", OTHERWISE: "Dropped for another cause"}
 MEANS = {
     OPENED: "dropped by the old ruleset, and goes through now",
@@ -19,7 +21,8 @@ MEANS = {
 
 class Change:
     """The groups of what differs between two rulesets over a capture. `records` has of each group the first of its
-    records, `after` is the replay of the new ruleset, whose files are in the folder."""
+    records, `after` is the replay of the new ruleset, whose files are in the folder. `nothing` tells why nothing was
+    compared, or is None; `doubts` are what a reader has to know before all else."""
 
     def __init__(self, old, new, box, capture, folder):
         flows = Flows(capture, box)
@@ -30,6 +33,10 @@ class Change:
             kept = self.records.setdefault(group.number, [])
             if len(kept) < MOST_RECORDS:
                 kept.append(record)
+        self.evidence, router = Evidence(*self.groups.sights), Router(flows, box, before)
+        self.nothing = None if self.groups.all else self.evidence.nothing_compared()
+        self.doubts = [line.strip() for line in router.lines()] + [line for line in (router.not_compared(),) if line]
+        self.is_clean = bool(self.groups.all) or not self.nothing and not router
 
     def of_kind(self, kind):
         chosen = [group for group in self.groups.all if group.kind == kind]
@@ -44,13 +51,26 @@ class Change:
         parts = [f'<p class="lead">From <code>{shown(old_name)}</code> to <code>{shown(new_name)}</code>, each replayed as its '
                  'hosts would have sent: what follows on a dropped first packet isn\'t sent, and answers go to the ports that '
                  'the ruleset chose.</p>']
-        if not self.groups.all:
-            return "".join(parts) + '<p class="same">Nothing changes for this capture.</p>'
-        for kind in KINDS:
+        parts += [f'<p class="warning">{shown(line)}</p>' for line in self.doubts]
+        if self.nothing:
+            parts.append(f'<p class="warning">Nothing was compared: {shown(self.nothing)}.</p>')
+        elif not self.groups.all:
+            rest = "the rest of this capture" if self.doubts else "this capture"
+            parts.append(f'<p class="same">Nothing changes for {rest}.</p>')
+        for kind in KINDS if self.groups.all else ():
             groups = self.of_kind(kind)
             if groups or kind in (OPENED, BLOCKED):
                 parts.append(self.kind_html(kind, groups))
-        return "".join(parts)
+        return "".join(parts) + self.unmet_html()
+
+    def unmet_html(self):
+        """What differs in the rulesets, and no packet met."""
+        unmet = self.evidence.unmet
+        if not unmet:
+            return ""
+        rows = "<br>".join(f"<code>{shown(line)}</code>" for line in unmet[:MOST_UNMET])
+        rest = f"<br>and {number(len(unmet) - MOST_UNMET)} more" if len(unmet) > MOST_UNMET else ""
+        return f'<p class="bound">These changes were met by no packet:<br>{rows}{rest}</p>'
 
     def kind_html(self, kind, groups):
         flows, packets = self.groups.flow_counts[kind], sum(group.packets for group in groups)

@@ -10,7 +10,7 @@ from pages.model import AFTER_ALL, COPY, Model
 from pages.texts import number, packed, plural, seconds_text, shown
 from toolbox import rulemap
 from toolbox.boxes import Box
-from toolbox.commands import DONE, TORN, Refused, check_files, read_bytes, remark
+from toolbox.commands import DONE, REFUSED, TORN, Refused, check_files, read_bytes, remark
 from toolbox.evidence import torn_text
 from toolbox.program import workspace
 from toolbox.rulesets import read_ruleset
@@ -221,5 +221,9 @@ def page(options, output):
         output.write(made.html())
     if made.model.torn:
         remark("page", torn_text(options.capture, made.model.count))
-        return TORN
-    return DONE
+    if made.change:
+        for line in filter(None, (*made.change.doubts, made.change.nothing and f"nothing was compared: {made.change.nothing}")):
+            remark("page", line)
+        if not made.change.is_clean:
+            return REFUSED
+    return TORN if made.model.torn else DONE
