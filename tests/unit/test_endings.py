@@ -52,6 +52,11 @@ class Outputs(FilesCase):
             self.assertEqual(part, "/dev/null")
 
 
+def hear_interrupts() -> None:
+    """What is started in the background passes over an interrupt, and so would what the tests start."""
+    signal.signal(signal.SIGINT, signal.SIG_DFL)
+
+
 class Ending(FilesCase):
     def setUp(self) -> None:
         super().setUp()
@@ -65,7 +70,8 @@ class Ending(FilesCase):
         program = self.file("sleeper", SLEEPER)
         os.chmod(program, 0o755)
         child = subprocess.Popen([str(TOP / "tools" / words[0]), *words[1:]], env={**self.known, "NFTRUN": program},
-                                 stdout=subprocess.PIPE, stderr=subprocess.PIPE, start_new_session=True)
+                                 stdout=subprocess.PIPE, stderr=subprocess.PIPE, start_new_session=True,
+                                 preexec_fn=hear_interrupts)
         self.addCleanup(child.kill)
         return child
 
