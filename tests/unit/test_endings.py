@@ -52,9 +52,10 @@ class Outputs(FilesCase):
             self.assertEqual(part, "/dev/null")
 
 
-def hear_interrupts() -> None:
-    """What is started in the background passes over an interrupt, and so would what the tests start."""
-    signal.signal(signal.SIGINT, signal.SIG_DFL)
+def hear_signals() -> None:
+    """What nohup starts, or a shell in the background, passes over some signals, and so would what the tests start."""
+    for number in signal.SIGHUP, signal.SIGINT, signal.SIGTERM:
+        signal.signal(number, signal.SIG_DFL)
 
 
 class Ending(FilesCase):
@@ -71,7 +72,7 @@ class Ending(FilesCase):
         os.chmod(program, 0o755)
         child = subprocess.Popen([str(TOP / "tools" / words[0]), *words[1:]], env={**self.known, "NFTRUN": program},
                                  stdout=subprocess.PIPE, stderr=subprocess.PIPE, start_new_session=True,
-                                 preexec_fn=hear_interrupts)
+                                 preexec_fn=hear_signals)
         self.addCleanup(child.kill)
         return child
 
