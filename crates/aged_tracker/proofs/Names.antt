@@ -12,9 +12,11 @@ pub use Rattle.aged_tracker.specs.steps.Table.{pushed, queue_by, queue_of, seria
 pub use Rattle.box_file.specs.declared.limits.Limits.{Limits}
 pub use Rattle.conntrack.proofs.Ids.{apart-filter, apart-push, apart-touched_at, distinct-filter, distinct-push, distinct-touched_at, found_by_id}
 pub use Rattle.conntrack.proofs.Ids.{length-without, without_new}
-pub use Rattle.conntrack.specs.ConntrackEntry.{IsNoneLater, aged_of, begun_with, belonging_by, belongs_in, connection_of, connection_ref, has_distinct_ids}
-pub use Rattle.conntrack.specs.ConntrackEntry.{has_id, have_disjoint_tuples, is_incoming, is_live, is_taken, limit_of, live_at, removed_entry, same_id}
-pub use Rattle.conntrack.specs.ConntrackEntry.{touched, touched_at}
+pub use Rattle.conntrack.specs.ConntrackEntry.{belonging_by, belongs_in, connection_of, connection_ref}
+pub use Rattle.conntrack.specs.TableEntries.{IsNoneLater, aged_of, begun_with, has_distinct_ids}
+pub use Rattle.conntrack.specs.ConntrackEntry.{is_incoming, is_live, is_taken, limit_of, same_id}
+pub use Rattle.conntrack.specs.TableEntries.{has_id, have_disjoint_tuples, live_at, removed_entry}
+pub use Rattle.conntrack.specs.TableEntries.{touched, touched_at}
 pub use Rattle.conntrack.specs.declared.belonging.Belonging.{Belonging}
 pub use Rattle.conntrack.specs.declared.belonging.Belonging.TheVariants.{Found, NotFound}
 pub use Rattle.conntrack.specs.declared.connection.Aged.{Aged}

@@ -1,7 +1,8 @@
 //! A conntrack table whose calls count few visited slots.
 ghost use Rattle.std.specs.Prelude.{◌≡◌, ◌+◌, ◌<◌, ◌≤◌, ℕ, [], IsTrue, Some, None, cond, false, is_some};
 ghost use Rattle.aged_tracker.specs.steps.Table.{IsConsistent};
-ghost use Rattle.conntrack.specs.ConntrackEntry.{IsWithin, belongs_in, has_distinct_ids, have_disjoint_tuples, live_at};
+ghost use Rattle.conntrack.specs.ConntrackEntry.{belongs_in};
+ghost use Rattle.conntrack.specs.TableEntries.{IsWithin, has_distinct_ids, have_disjoint_tuples, live_at};
 ghost use Rattle.std.specs.HashMap.{get, spare};
 ghost use Rattle.ip_headers.specs.Same.{same_tuple};
 ghost use Rattle.ip_headers.specs.declared.tuple.Tuple.{Tuple as Tupled};

@@ -2,7 +2,7 @@
 //! they read or write.
 ghost use Rattle.std.specs.Prelude.{◌≡◌, ℕ, ◌+◌, ◌<◌, ◌≤◌, ◌==◌, [], Some, None, slice_get};
 ghost use Rattle.slab.specs.Slab.{ContainsKey};
-ghost use Rattle.conntrack.specs.ConntrackEntry.{IsWithin};
+ghost use Rattle.conntrack.specs.TableEntries.{IsWithin};
 ghost use Rattle.aged_tracker.specs.steps.Table.{HasRings, IsNode, IsOwned, IsRings, Lists, MAX_KEYS, is_first, Relinks, Relists, SameBy, SameSize};
 ghost use Rattle.aged_tracker.specs.steps.Table.{Slots as SlotsName, except_links, link_at, number, off, owner_of, prev_of, pushed, with_neighbour};
 

@@ -3,7 +3,7 @@
 ghost use Rattle.std.specs.Prelude.{◌≡◌, ◌+◌, ◌<◌, [], List, IsTrue, IfSome, IfOk, OnOk, IsOk, Some, None, map, option_copied, nat_lt};
 ghost use Rattle.slab.specs.Slab.{entries, get, slab_len, ContainsKey, Updates};
 ghost use Rattle.conntrack.specs.StepCounts.{Counts};
-ghost use Rattle.conntrack.specs.ConntrackEntry.{touched};
+ghost use Rattle.conntrack.specs.TableEntries.{touched};
 ghost use Rattle.aged_tracker.specs.steps.Table.{Placed, SameSize, held_of, link_at, numbered_entry, owner_of, queue_of, updated, with_link, with_neighbour};
 ghost use Rattle.aged_tracker.specs.declared.slot.Link.{Link as Linked};
 

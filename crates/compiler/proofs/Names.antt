@@ -15,7 +15,8 @@ pub use Rattle.filter_vm.specs.declared.code.Start.{Start}
 pub use Rattle.list_laws.specs.Elements.{Contains-tail, Contains-unmap}
 pub use Rattle.list_laws.specs.Options.{some_of_map}
 pub use Rattle.nft_tree.specs.TableItems.{chain_in, chains_of}
-pub use Rattle.nft_tree.specs.Tree.{ChainTree, HeadTree, ItemTree, MatchTree, Statement, TableTree, Text, VerdictTree, chain_tree, tables_of}
+pub use Rattle.nft_tree.specs.Tree.{ChainTree, HeadTree, ItemTree, MatchTree, Statement, TableTree, Text, VerdictTree}
+pub use Rattle.nft_tree.specs.TreeViews.{chain_tree, tables_of}
 pub use Rattle.nft_tree.specs.declared.chain.Chain.{Chain}
 pub use Rattle.nft_tree.specs.declared.chain.Hook.{Hook}
 pub use Rattle.rule_code.specs.declared.code.TableCode.{TableCode}

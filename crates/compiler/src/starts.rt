@@ -1,7 +1,8 @@
 //! The starts of a ruleset: its base chains, hook by hook, in the order in which they run.
 ghost use Rattle.std.specs.Prelude.{◌≡◌, ◌+◌, ◌++◌, ◌<◌, ℕ, [], false, filter, length, map, slice_get, slice_index, Some, IfOk, OnOk};
 ghost use Rattle.std.specs.List.{list_any};
-ghost use Rattle.nft_tree.specs.Tree.{ChainTree, HeadTree, chain_tree};
+ghost use Rattle.nft_tree.specs.Tree.{ChainTree, HeadTree};
+ghost use Rattle.nft_tree.specs.TreeViews.{chain_tree};
 ghost use Rattle.nft_tree.specs.TableItems.{chains_of};
 ghost use Rattle.rule_paths.specs.Paths.{MAX_COST};
 ghost use Rattle.rule_values.specs.Faults.{chain_out_of_range, has_wrong_value, item_out_of_range};

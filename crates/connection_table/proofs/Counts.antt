@@ -5,7 +5,8 @@ use Rattle.std.specs.List.{Contains}
 use Rattle.std.proofs.lemmas.List.Sums.{sum_by-append, count_by-le-length}
 use Rattle.nat_mapping.specs.steps.Holders.{holders_cons}
 use Rattle.ip_headers.specs.declared.tuple.Mapping.{Mapping}
-use Rattle.nat_mapping.specs.Mappings.{HoldsSame, holders_of, same_mapping}
+use Rattle.nat_mapping.specs.Mappings.{same_mapping}
+use Rattle.nat_mapping.specs.HeldMappings.{HoldsSame, holders_of}
 use Rattle.translation.specs.LiveMappings.{listed}
 
 pub holders-append : (m : Mapping) (one other : List Mapping)

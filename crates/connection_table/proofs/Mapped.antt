@@ -7,8 +7,9 @@ use Rattle.conntrack.specs.declared.connection.ConnId.{ConnId}
 use Rattle.conntrack.specs.declared.connection.Direction.{Direction}
 use Rattle.conntrack.specs.declared.connection.Flags.{Flags}
 use Rattle.conntrack.specs.declared.connection.ConntrackEntry.{ConntrackEntry}
-use Rattle.conntrack.specs.ConntrackEntry.{same_id, touched, touched_at}
-use Rattle.nat_mapping.specs.Mappings.{holders_of}
+use Rattle.conntrack.specs.ConntrackEntry.{same_id}
+use Rattle.conntrack.specs.TableEntries.{touched, touched_at}
+use Rattle.nat_mapping.specs.HeldMappings.{holders_of}
 use Rattle.translation.specs.LiveMappings.{listed, mappings_in, mappings_of}
 use Rattle.connection_table.proofs.Counts.{holders-append, length-listed}
 

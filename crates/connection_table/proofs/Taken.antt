@@ -9,8 +9,9 @@ use Rattle.ip_headers.specs.declared.tuple.Mapping.{Mapping}
 use Rattle.conntrack.specs.declared.connection.Aged.{Aged}
 use Rattle.conntrack.specs.declared.connection.ConnId.{ConnId}
 use Rattle.conntrack.specs.declared.connection.ConntrackEntry.{ConntrackEntry}
-use Rattle.conntrack.specs.ConntrackEntry.{aged_of, has_distinct_ids, has_id, same_id, removed_entry, without}
-use Rattle.nat_mapping.specs.Mappings.{HoldsSame, holders_of}
+use Rattle.conntrack.specs.ConntrackEntry.{same_id, without}
+use Rattle.conntrack.specs.TableEntries.{aged_of, has_distinct_ids, has_id, removed_entry}
+use Rattle.nat_mapping.specs.HeldMappings.{HoldsSame, holders_of}
 use Rattle.translation.specs.LiveMappings.{listed, mappings_in}
 use Rattle.connection_table.proofs.Counts.{holders-append}
 use Rattle.connection_table.proofs.Mapped.{holders-first}

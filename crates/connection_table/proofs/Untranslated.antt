@@ -5,7 +5,7 @@ use Rattle.ip_headers.specs.declared.tuple.Tuple.{Tuple}
 use Rattle.conntrack.specs.declared.belonging.Belonging.{Belonging}
 use Rattle.conntrack.specs.declared.belonging.Belonging.TheVariants.{NotFound, Ends, Found}
 use Rattle.conntrack.specs.ConntrackEntry.{may_begin}
-use Rattle.nat_mapping.specs.Mappings.{IsOneToOne}
+use Rattle.nat_mapping.specs.HeldMappings.{IsOneToOne}
 use Rattle.translation.specs.Fitting.{Fits, IsFitting}
 use Rattle.translation.specs.CtInfos.{new_connection_of, ct_info_by}
 use Rattle.translation.specs.declared.ct_info.CtInfo.TheVariants.{New, Invalid}

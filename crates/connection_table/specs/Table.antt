@@ -7,7 +7,8 @@ use Rattle.conntrack.specs.declared.belonging.Belonging.TheVariants.{Found}
 use Rattle.conntrack.specs.declared.connection.Connection.{Connection}
 use Rattle.conntrack.specs.declared.connection.ConntrackEntry.{ConntrackEntry}
 use Rattle.box_file.specs.declared.limits.Limits.{Limits}
-use Rattle.conntrack.specs.ConntrackEntry.{has_id, is_taken}
+use Rattle.conntrack.specs.ConntrackEntry.{is_taken}
+use Rattle.conntrack.specs.TableEntries.{has_id}
 use Rattle.translation.specs.declared.ct_info.NewConnection.{NewConnection}
 
 -- its timeouts; its entries in the order of their creation, with expired ones that weren't removed yet; and

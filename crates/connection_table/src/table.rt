@@ -2,13 +2,15 @@
 ghost use Rattle.std.specs.Prelude.{◌≡◌, ◌+◌, ◌<◌, ◌≤◌, ◌↔◌, ◌++◌, ◌∷◌, [], IsTrue, List, false, length, map, IfOk, IsOk, OnErr, OnOk, Err};
 ghost use Rattle.ip_headers.specs.declared.tuple.Mapping.{Mapping};
 ghost use Rattle.conntrack.specs.declared.connection.ConnId.{ConnId};
-ghost use Rattle.conntrack.specs.ConntrackEntry.{IsNoneLater, begun_with, belongs_in, connection_of};
-ghost use Rattle.conntrack.specs.ConntrackEntry.{has_distinct_ids, has_id, is_taken, live_at, max_connections};
-ghost use Rattle.conntrack.specs.ConntrackEntry.{touched_at};
+ghost use Rattle.conntrack.specs.ConntrackEntry.{belongs_in, connection_of};
+ghost use Rattle.conntrack.specs.TableEntries.{IsNoneLater, begun_with};
+ghost use Rattle.conntrack.specs.ConntrackEntry.{is_taken, max_connections};
+ghost use Rattle.conntrack.specs.TableEntries.{has_distinct_ids, has_id, live_at};
+ghost use Rattle.conntrack.specs.TableEntries.{touched_at};
 ghost use Rattle.conntrack.specs.Phases.{no_flags};
 ghost use Rattle.conntrack.specs.Updates.{after_end};
 ghost use Rattle.ip_headers.specs.Tuple.{inverse};
-ghost use Rattle.nat_mapping.specs.Mappings.{HoldsSame, IsOneToOne, holders_of};
+ghost use Rattle.nat_mapping.specs.HeldMappings.{HoldsSame, IsOneToOne, holders_of};
 ghost use Rattle.translation.specs.Fitting.{Fits, IsFitting};
 ghost use Rattle.translation.specs.LiveMappings.{listed, mappings_in};
 ghost use Rattle.translation.specs.CtInfos.{ct_info_by};
@@ -37,7 +39,7 @@ pub struct ConnectionTable<T: Tracker> {
 
 impl<T: Tracker> Model for ConnectionTable<T> {
     ghost use Rattle.std.specs.Prelude.{◌&&◌, nat_le};
-    ghost use Rattle.nat_mapping.specs.Mappings.{HoldsSame};
+    ghost use Rattle.nat_mapping.specs.HeldMappings.{HoldsSame};
     ghost use Rattle.translation.specs.LiveMappings.{mappings_in};
     ghost use Rattle.connection_table.specs.Table.{Table};
 

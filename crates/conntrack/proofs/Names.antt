@@ -1,8 +1,11 @@
 -- Names of other crates and of the definitions, for the proofs.
 pub use Rattle.box_file.specs.declared.limits.Limits.{Limits}
-pub use Rattle.conntrack.specs.ConntrackEntry.{IsNoneLater, begun_with, belonging_by, belonging_without_id, belongs_in, connection_of, connection_ref}
-pub use Rattle.conntrack.specs.ConntrackEntry.{has_distinct_ids, has_id, have_disjoint_tuples, is_incoming, is_live, is_taken, limit_of, live_at, of_original}
-pub use Rattle.conntrack.specs.ConntrackEntry.{of_reply, same_id, touched, touched_at, without, without_id}
+pub use Rattle.conntrack.specs.ConntrackEntry.{belonging_by, belongs_in, connection_of, connection_ref}
+pub use Rattle.conntrack.specs.TableEntries.{IsNoneLater, begun_with, belonging_without_id}
+pub use Rattle.conntrack.specs.ConntrackEntry.{is_incoming, is_live, is_taken, limit_of, of_original}
+pub use Rattle.conntrack.specs.TableEntries.{has_distinct_ids, has_id, have_disjoint_tuples, live_at}
+pub use Rattle.conntrack.specs.ConntrackEntry.{of_reply, same_id, without, without_id}
+pub use Rattle.conntrack.specs.TableEntries.{touched, touched_at}
 pub use Rattle.conntrack.specs.Histories.{ConnectionChange, Creation, TrackedPacket, begun_in, belongs, connection_in, is_ended, is_that, is_touch_of}
 pub use Rattle.conntrack.specs.Histories.{live_list, number_if_begins, replayed}
 pub use Rattle.conntrack.specs.Phases.{no_flags}

@@ -1,13 +1,11 @@
 -- The conntrack entries that a table holds, as a list in the order of their creation, and lookups in it.
 -- Where a comment says so, a rule is this project's own (own).
-use Rattle.std.specs.Prelude.{◌≡◌, ◌≤◌, ◌+◌, ◌-◌, ℕ, Bool, true, false, not, ◌&&◌, ◌||◌, ◌==◌, nat_lt}
-use Rattle.std.specs.Prelude.{if◌then◌else◌, List, [], ◌∷◌, map, filter, Option, Some, None}
+use Rattle.std.specs.Prelude.{◌-◌, ℕ, Bool, true, false, not, ◌&&◌, ◌||◌, ◌==◌, nat_lt}
+use Rattle.std.specs.Prelude.{if◌then◌else◌, List, filter, Option, Some, None}
 use Rattle.std.specs.List.{find, list_any}
-use Rattle.std.specs.Option.{option_map}
 use Rattle.ip_headers.specs.declared.tuple.Kind.{Kind}
 use Rattle.ip_headers.specs.declared.tuple.Kind.TheVariants.{EchoReply}
 use Rattle.ip_headers.specs.declared.tuple.Tuple.{Tuple}
-use Rattle.conntrack.specs.declared.connection.Aged.{Aged}
 use Rattle.conntrack.specs.declared.connection.ConnId.{ConnId}
 use Rattle.conntrack.specs.declared.connection.Connection.{Connection}
 use Rattle.conntrack.specs.declared.connection.Direction.{Direction}
@@ -19,7 +17,7 @@ use Rattle.conntrack.specs.declared.belonging.Belonging.{Belonging}
 use Rattle.conntrack.specs.declared.belonging.Belonging.TheVariants.{NotFound, Ends, Found}
 use Rattle.conntrack.specs.declared.belonging.ConnectionRef.{ConnectionRef}
 use Rattle.ip_headers.specs.Same.{same_tuple}
-use Rattle.conntrack.specs.Phases.{no_flags, seen_more, is_lone_syn, is_closing, phase_of, limit_by}
+use Rattle.conntrack.specs.Phases.{is_lone_syn, is_closing, phase_of, limit_by}
 
 -- ---- directions (netfilter's IP_CT_DIR_ORIGINAL and IP_CT_DIR_REPLY)
 
@@ -41,36 +39,6 @@ limit_of limits h = limit_by limits h.original.kind (phase_of h)
 abbrev pub is_live : Limits → ℕ → ConntrackEntry → Bool
 is_live limits now h = nat_lt (now - h.last) (limit_of limits h)
 
--- a new entry, after its first packet
-abbrev pub begun_with : ConnId → Connection → Flags → ConntrackEntry
-begun_with id connection flags = record {
-  id = id;
-  original = connection.original;
-  reply = connection.reply;
-  mark = connection.mark;
-  last = connection.last;
-  from_original = flags;
-  from_reply = no_flags;
-  replied = false;
-  source = connection.source;
-  dest = connection.dest;
-}
-
--- an entry after one more packet, which sets this mark
-abbrev pub touched : Direction → Flags → ℕ → ℕ → ConntrackEntry → ConntrackEntry
-touched direction flags mark now h = record {
-  id = h.id;
-  original = h.original;
-  reply = h.reply;
-  mark = mark;
-  last = now;
-  from_original = seen_more (is_original direction) flags h.from_original;
-  from_reply = seen_more (is_reply direction) flags h.from_reply;
-  replied = is_reply direction || h.replied;
-  source = h.source;
-  dest = h.dest;
-}
-
 -- as it is listed
 abbrev pub connection_of : ConntrackEntry → Connection
 connection_of h = record {
@@ -81,10 +49,6 @@ connection_of h = record {
   source = h.source;
   dest = h.dest;
 }
-
--- what is handed over of a removed entry
-abbrev pub aged_of : ConntrackEntry → Aged
-aged_of h = record { id = h.id; source = h.source; dest = h.dest }
 
 -- an entry with its id erased: ids are chosen by the table and don't matter
 abbrev pub without_id : ConntrackEntry → ConntrackEntry
@@ -103,28 +67,8 @@ without_id h = record {
 
 -- ---- the entries of a table (own)
 
-abbrev pub live_at : Limits → ℕ → List ConntrackEntry → List ConntrackEntry
-live_at limits now held = filter (is_live limits now) held
-
--- the same entries in the same order, whatever their ids
-abbrev pub SameExceptIds : List ConntrackEntry → List ConntrackEntry → Type 0
-SameExceptIds held others = map without_id held ≡ map without_id others
-
--- no entry had a packet after this moment
-abbrev pub IsNoneLater : ℕ → List ConntrackEntry → Type 0
-IsNoneLater now [] = Unit {0}
-IsNoneLater now (h ∷ held) = (h.last ≤ now) × IsNoneLater now held
-
 abbrev pub same_id : ConnId → ConntrackEntry → Bool
 same_id id h = h.id.0 == id.0
-
-abbrev pub has_id : ConnId → List ConntrackEntry → Bool
-has_id id held = list_any (same_id id) held
-
--- no two entries have the same id
-abbrev pub has_distinct_ids : List ConntrackEntry → Bool
-has_distinct_ids [] = true
-has_distinct_ids (h ∷ held) = not (has_id h.id held) && has_distinct_ids held
 
 abbrev pub is_incoming : Tuple → ConntrackEntry → Bool
 is_incoming tuple h = same_tuple h.original tuple || same_tuple h.reply tuple
@@ -133,22 +77,8 @@ is_incoming tuple h = same_tuple h.original tuple || same_tuple h.reply tuple
 abbrev pub is_taken : Tuple → List ConntrackEntry → Bool
 is_taken tuple held = list_any (is_incoming tuple) held
 
--- no two entries have an incoming tuple in common; the two tuples of one entry may be equal
-abbrev pub have_disjoint_tuples : List ConntrackEntry → Bool
-have_disjoint_tuples [] = true
-have_disjoint_tuples (h ∷ held) =
-    not (is_taken h.original held || is_taken h.reply held) && have_disjoint_tuples held
-
-abbrev pub touched_at : ConnId → Direction → Flags → ℕ → ℕ → List ConntrackEntry → List ConntrackEntry
-touched_at id direction flags mark now held =
-    map (λ h. if same_id id h then touched direction flags mark now h else h) held
-
 abbrev pub without : ConnId → List ConntrackEntry → List ConntrackEntry
 without id held = filter (λ h. not (same_id id h)) held
-
--- what is handed over of the entry with this id
-abbrev pub removed_entry : ConnId → List ConntrackEntry → Option Aged
-removed_entry id held = option_map aged_of (find (same_id id) held)
 
 -- the most entries that a table holds (own; netfilter's nf_conntrack_max)
 abbrev pub max_connections : ℕ
@@ -184,29 +114,7 @@ belonging_by flags None None = NotFound
 abbrev pub belongs_in : List ConntrackEntry → Tuple → Flags → Belonging
 belongs_in held tuple flags = belonging_by flags (of_original held tuple) (of_reply held tuple)
 
-abbrev pub ref_without_id : ConnectionRef → ConnectionRef
-ref_without_id p = record {
-  id = record { 0 = 0 };
-  direction = p.direction;
-  original = p.original;
-  reply = p.reply;
-  mark = p.mark;
-  replied = p.replied;
-}
-
-abbrev pub belonging_without_id : Belonging → Belonging
-belonging_without_id NotFound = NotFound
-belonging_without_id (Ends id) = Ends (record { 0 = 0 })
-belonging_without_id (Found found) = Found (ref_without_id found)
-
 -- whether a packet of this kind that finds none begins a connection: an unsolicited echo reply doesn't (own)
 abbrev pub may_begin : Kind → Bool
 may_begin EchoReply = false
 may_begin _ = true
-
--- ---- bounds on visited slots (own)
-
--- a count doesn't fall, and rises by this bound at most, if there is one
-abbrev pub IsWithin : Option ℕ → ℕ → ℕ → Type 0
-IsWithin None old new = old ≤ new
-IsWithin (Some n) old new = (old ≤ new) × (new ≤ old + n)

@@ -14,7 +14,8 @@ use Rattle.conntrack.specs.declared.connection.Phase.{Phase}
 use Rattle.box_file.specs.declared.limits.Limits.{Limits}
 use Rattle.conntrack.specs.declared.belonging.Belonging.{Belonging}
 use Rattle.conntrack.specs.Phases.{phase_by}
-use Rattle.conntrack.specs.ConntrackEntry.{is_original, is_reply, is_live, live_at, belongs_in, SameExceptIds}
+use Rattle.conntrack.specs.ConntrackEntry.{is_original, is_reply, is_live, belongs_in}
+use Rattle.conntrack.specs.TableEntries.{live_at, SameExceptIds}
 
 -- ---- what is recorded of a packet
 

@@ -1,6 +1,7 @@
 pub mod Tuples
 pub mod Phases
 pub mod ConntrackEntry
+pub mod TableEntries
 pub mod Histories
 pub mod Updates
 pub mod Examples

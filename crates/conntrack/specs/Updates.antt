@@ -9,7 +9,8 @@ use Rattle.conntrack.specs.declared.connection.ConntrackEntry.{ConntrackEntry}
 use Rattle.conntrack.specs.declared.belonging.Belonging.{Belonging}
 use Rattle.conntrack.specs.declared.belonging.Belonging.TheVariants.{Ends, Found}
 use Rattle.conntrack.specs.Phases.{no_flags}
-use Rattle.conntrack.specs.ConntrackEntry.{begun_with, is_taken, touched_at, without}
+use Rattle.conntrack.specs.ConntrackEntry.{is_taken, without}
+use Rattle.conntrack.specs.TableEntries.{begun_with, touched_at}
 use Rattle.conntrack.specs.Histories.{TrackedPacket, ConnectionChange, NoChange, Begins, Touches}
 
 -- a packet that has a tuple, at its moment

@@ -1,7 +1,8 @@
 //! Conntrack entries.
 ghost use Rattle.std.specs.Prelude.{◌≡◌, true};
 ghost use Rattle.conntrack.specs.Phases.{flags_of, is_closing, is_lone_syn, no_flags, phase_by, phase_of, seen_more};
-ghost use Rattle.conntrack.specs.ConntrackEntry.{aged_of, begun_with, connection_of, is_live, limit_of, touched};
+ghost use Rattle.conntrack.specs.ConntrackEntry.{connection_of, is_live, limit_of};
+ghost use Rattle.conntrack.specs.TableEntries.{aged_of, begun_with, touched};
 
 use crate::limits::limit_by;
 use box_file::Limits;

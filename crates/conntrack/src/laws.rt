@@ -8,9 +8,12 @@ ghost use Rattle.box_file.specs.declared.limits.Limits.{Limits};
 ghost use Rattle.conntrack.specs.declared.belonging.Belonging.{Belonging};
 ghost use Rattle.conntrack.specs.declared.belonging.Belonging.TheVariants.{Ends, Found, NotFound};
 ghost use Rattle.conntrack.specs.declared.belonging.ConnectionRef.{ConnectionRef};
-ghost use Rattle.conntrack.specs.ConntrackEntry.{IsNoneLater, have_disjoint_tuples, belongs_in, connection_of};
-ghost use Rattle.conntrack.specs.ConntrackEntry.{has_distinct_ids, has_id, is_taken, live_at, SameExceptIds};
-ghost use Rattle.conntrack.specs.ConntrackEntry.{belonging_without_id, without};
+ghost use Rattle.conntrack.specs.ConntrackEntry.{belongs_in, connection_of};
+ghost use Rattle.conntrack.specs.TableEntries.{IsNoneLater, have_disjoint_tuples};
+ghost use Rattle.conntrack.specs.ConntrackEntry.{is_taken};
+ghost use Rattle.conntrack.specs.TableEntries.{has_distinct_ids, has_id, live_at, SameExceptIds};
+ghost use Rattle.conntrack.specs.ConntrackEntry.{without};
+ghost use Rattle.conntrack.specs.TableEntries.{belonging_without_id};
 ghost use Rattle.conntrack.specs.Histories.{TrackedPacket, RepresentsAt, belongs, live_list};
 ghost use Rattle.conntrack.specs.Updates.{Arrival, Confirmation, DoesNotClash, after_end, after_packet, entry_at, tracked_packet};
 

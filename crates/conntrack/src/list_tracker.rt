@@ -4,9 +4,12 @@ ghost use Rattle.std.specs.Prelude.{IsTrue, ◌-◌, nat_lt, vec_len, vec_capaci
 ghost use Rattle.std.specs.Prelude.{if◌then◌else◌};
 ghost use Rattle.std.specs.List.{find};
 ghost use Rattle.conntrack.specs.steps.Entries.{has_ids_below, has_tuple, is_sought};
-ghost use Rattle.conntrack.specs.ConntrackEntry.{have_disjoint_tuples, belongs_in, has_distinct_ids};
-ghost use Rattle.conntrack.specs.ConntrackEntry.{is_live, is_taken, live_at};
-ghost use Rattle.conntrack.specs.ConntrackEntry.{same_id, touched, touched_at, without};
+ghost use Rattle.conntrack.specs.ConntrackEntry.{belongs_in};
+ghost use Rattle.conntrack.specs.TableEntries.{have_disjoint_tuples, has_distinct_ids};
+ghost use Rattle.conntrack.specs.ConntrackEntry.{is_live, is_taken};
+ghost use Rattle.conntrack.specs.TableEntries.{live_at};
+ghost use Rattle.conntrack.specs.ConntrackEntry.{same_id, without};
+ghost use Rattle.conntrack.specs.TableEntries.{touched, touched_at};
 
 use crate::belonging::{Belonging, ConnectionRef};
 use crate::connection::{Aged, ConnId, Connection, ConntrackEntry, Direction, Flags, Moment};

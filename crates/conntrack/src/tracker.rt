@@ -1,9 +1,12 @@
 //! The interface of conntrack tables.
 ghost use Rattle.std.specs.Prelude.{◌≡◌, ◌+◌, ◌<◌, ◌≤◌, ◌↔◌, ℕ, Bool, IsTrue, List, [], ◌++◌, ◌∷◌, Option, length};
 ghost use Rattle.std.specs.Prelude.{map, false, Some, IfOk, IsOk, OnOk, OnErr, IfSome, IfNone};
-ghost use Rattle.conntrack.specs.ConntrackEntry.{IsNoneLater, IsWithin, have_disjoint_tuples, begun_with, belongs_in};
-ghost use Rattle.conntrack.specs.ConntrackEntry.{connection_of, has_distinct_ids, has_id, is_taken, live_at};
-ghost use Rattle.conntrack.specs.ConntrackEntry.{max_connections, belonging_without_id, removed_entry, touched_at};
+ghost use Rattle.conntrack.specs.ConntrackEntry.{belongs_in};
+ghost use Rattle.conntrack.specs.TableEntries.{IsNoneLater, IsWithin, have_disjoint_tuples, begun_with};
+ghost use Rattle.conntrack.specs.ConntrackEntry.{connection_of, is_taken};
+ghost use Rattle.conntrack.specs.TableEntries.{has_distinct_ids, has_id, live_at};
+ghost use Rattle.conntrack.specs.ConntrackEntry.{max_connections};
+ghost use Rattle.conntrack.specs.TableEntries.{belonging_without_id, removed_entry, touched_at};
 ghost use Rattle.conntrack.specs.ConntrackEntry.{without};
 ghost use Rattle.conntrack.specs.Histories.{TrackedPacket, RepresentsAt, belongs};
 

@@ -2,7 +2,8 @@
 use Rattle.std.proofs.Common.{◌≡◌, ℕ, ◌+◌, ◌≤◌, Bool, true, false, cond, List, [], ◌∷◌, sym, subst, arith}
 use Rattle.nat_mapping.specs.steps.Holders.{holders_cons}
 use Rattle.ip_headers.specs.declared.tuple.Mapping.{Mapping}
-use Rattle.nat_mapping.specs.Mappings.{holders_of, same_mapping, HoldsSame}
+use Rattle.nat_mapping.specs.Mappings.{same_mapping}
+use Rattle.nat_mapping.specs.HeldMappings.{holders_of, HoldsSame}
 
 one_at_most : (b : Bool) → cond b 1 0 ≤ 1
 one_at_most true = omega arith

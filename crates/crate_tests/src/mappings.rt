@@ -1,7 +1,7 @@
 //! NAT mappings: held, found, released, and with allocations refused.
 ghost use Rattle.std.specs.Prelude.{◌+◌, ◌<◌, ◌≤◌, length};
 ghost use Rattle.ip_headers.specs.declared.tuple.Mapping.{Mapping as Mapped};
-ghost use Rattle.nat_mapping.specs.Mappings.{holders_of};
+ghost use Rattle.nat_mapping.specs.HeldMappings.{holders_of};
 
 use crate::support::check_row;
 use ip_headers::{Endpoint, Kind, Mapping};

@@ -16,8 +16,10 @@ pub use Rattle.engine.specs.steps.Replayed.{OfEach, PrefixWritten, ReplayInput, 
 pub use Rattle.engine.specs.steps.Replayed.{WritesOutputs, ending_at, input_at, start_of, torn_at, unread_input}
 pub use Rattle.history.specs.History.{Entry, IsEntry, IsNewest, capture_text, live_in, sends}
 pub use Rattle.history.specs.Setup.{Setup}
-pub use Rattle.nft_tree.specs.Tree.{TableTree, table_tree, tables_of}
-pub use Rattle.pcap_io.specs.CaptureStates.{CaptureState, FailsBetween, IsOfRecords, NextAnswers, READ_AHEAD, ReadsRecord, ahead, is_ready}
+pub use Rattle.nft_tree.specs.Tree.{TableTree}
+pub use Rattle.nft_tree.specs.TreeViews.{table_tree, tables_of}
+pub use Rattle.pcap_io.specs.CaptureStates.{CaptureState, FailsBetween, IsOfRecords, NextAnswers, ReadsRecord, ahead, is_ready}
+pub use Rattle.pcap_io.specs.ReadAhead.{READ_AHEAD}
 pub use Rattle.pcap_io.specs.Counting.{AppendsPrefix, one_failure}
 pub use Rattle.pcap_io.specs.Pcap.{Captured, Ending, Ends, HEADER_BYTES, IsRecord, Malformed, Over, Pcap, Recorded, Torn, Whole, decoded_after, decoded_records}
 pub use Rattle.pcap_io.specs.Pcap.{format_of, frame, header_fault, own_moment, stream_of}

@@ -7,7 +7,7 @@ use Rattle.pcap_io.specs.declared.fault.CaptureFault.{CaptureFault}
 use Rattle.pcap_io.specs.Pcap.{Captured, IsRecord, Ending, Ends, format_of, frame, header_fault, stream_of}
 use Rattle.pcap_io.specs.Pcap.{decoded_records}
 use Rattle.pcap_io.specs.Pcap.{HEADER_BYTES, MOST_RECORDS}
-use Rattle.pcap_io.specs.CaptureStates.{READ_AHEAD}
+use Rattle.pcap_io.specs.ReadAhead.{READ_AHEAD}
 use Rattle.pcap_io.specs.Counting.{AppendsPrefix, one_failure}
 use Rattle.pcap_io.specs.declared.counted.Counted.{Counted}
 use Rattle.pcap_io.specs.declared.failures.Failures.{Failures}

@@ -4,8 +4,9 @@ pub use Rattle.lowering.specs.Lowered.{HasDeclared, HasMap, HasTable, Keeps, sam
 pub use Rattle.lowering.specs.steps.Tables.{IsDeclaredSet, IsMapNumbers, IsMapVerdicts, IsNumberType, Table, entry_gives}
 pub use Rattle.nft_tree.specs.ComparedTypes.{compared_type_width, map_data_compared_type, map_key_compared_type, selector_compared_type}
 pub use Rattle.nft_tree.specs.TableItems.{maps_of, set_in, sets_of}
-pub use Rattle.nft_tree.specs.Tree.{ItemTree, MapTree, SetTree, TableTree, Text, VerdictTree, element_tree, flag_tree, map_tree, pair_tree, set_tree}
-pub use Rattle.nft_tree.specs.Tree.{value_tree}
+pub use Rattle.nft_tree.specs.Tree.{ItemTree, MapTree, SetTree, TableTree, Text, VerdictTree}
+pub use Rattle.nft_tree.specs.TreeViews.{element_tree, flag_tree, map_tree, pair_tree, set_tree}
+pub use Rattle.nft_tree.specs.TreeViews.{value_tree}
 pub use Rattle.nft_tree.specs.declared.compared_types.ComparedType.{ComparedType}
 pub use Rattle.nft_tree.specs.declared.compared_types.ComparedType.TheVariants.{Named, Unnamed}
 pub use Rattle.rule_code.specs.declared.code.Lookups.{Lookups}

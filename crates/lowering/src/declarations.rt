@@ -1,6 +1,6 @@
 //! Lookup tables for the sets and maps that a table declares.
 ghost use Rattle.std.specs.Prelude.{◌≡◌, false, map, IfOk};
-ghost use Rattle.nft_tree.specs.Tree.{map_tree, pair_tree, set_tree};
+ghost use Rattle.nft_tree.specs.TreeViews.{map_tree, pair_tree, set_tree};
 ghost use Rattle.nft_tree.specs.TableItems.{sets_of};
 ghost use Rattle.rule_types.specs.Types.{is_too_wide, table_mismatches};
 ghost use Rattle.rule_names.specs.Names.{some_of};

@@ -1,7 +1,7 @@
 //! The numbers of keys: the elements of sets and maps as intervals.
 ghost use Rattle.std.specs.Prelude.{◌≡◌, ◌+◌, ◌*◌, ◌^◌, ◌<◌, false, map, IfOk};
 ghost use Rattle.std.specs.Option.{option_map};
-ghost use Rattle.nft_tree.specs.Tree.{key_tree, set_type_tree, value_tree};
+ghost use Rattle.nft_tree.specs.TreeViews.{key_tree, set_type_tree, value_tree};
 ghost use Rattle.nft_tree.specs.ComparedTypes.{compared_type_width, key_compared_types, selector_compared_type};
 ghost use Rattle.nft_values.specs.Values.{span_of};
 ghost use Rattle.rule_types.specs.Types.{is_too_wide};

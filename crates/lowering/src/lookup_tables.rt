@@ -1,7 +1,7 @@
 //! Lookup tables that actions refer to by index.
 ghost use Rattle.std.specs.Prelude.{◌≡◌, false, map, slice_get, IfOk, OnOk};
 ghost use Rattle.std.specs.Option.{option_map};
-ghost use Rattle.nft_tree.specs.Tree.{element_tree, map_ref_tree, pair_tree, set_ref_tree};
+ghost use Rattle.nft_tree.specs.TreeViews.{element_tree, map_ref_tree, pair_tree, set_ref_tree};
 ghost use Rattle.nft_tree.specs.ComparedTypes.{selector_compared_type};
 ghost use Rattle.nft_tree.specs.declared.compared_types.ComparedType.TheVariants.{Named};
 ghost use Rattle.rule_types.specs.Types.{is_too_wide, lookup_mismatches, map_ref_mismatches};

@@ -1,6 +1,6 @@
 //! Lowers matches.
 ghost use Rattle.std.specs.Prelude.{◌≡◌, ◌==◌, false, map, IfOk, OnOk};
-ghost use Rattle.nft_tree.specs.Tree.{flag_tree, match_tree, range_tree};
+ghost use Rattle.nft_tree.specs.TreeViews.{flag_tree, match_tree, range_tree};
 ghost use Rattle.nft_tree.specs.ComparedTypes.{selector_compared_type};
 ghost use Rattle.nft_values.specs.Values.{numbers_of};
 ghost use Rattle.rule_types.specs.Types.{match_mismatches};

@@ -1,7 +1,7 @@
 //! Lowers NAT statements.
 ghost use Rattle.std.specs.Prelude.{◌≡◌, ◌<◌, false, not, true, IfOk, OnOk};
 ghost use Rattle.std.specs.Option.{option_map};
-ghost use Rattle.nft_tree.specs.Tree.{nat_tree};
+ghost use Rattle.nft_tree.specs.TreeViews.{nat_tree};
 ghost use Rattle.nft_tree.specs.Tree as tree;
 ghost use Rattle.rule_types.specs.Types.{statement_mismatches};
 ghost use Rattle.rule_values.specs.Faults.{are_ports, if_some, is_port, nat_out_of_range};

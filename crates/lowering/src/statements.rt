@@ -1,7 +1,7 @@
 //! Lowers statements.
 ghost use Rattle.std.specs.Prelude.{◌≡◌, false, IfOk, OnOk};
 ghost use Rattle.nft_tree.specs.Tree as tree;
-ghost use Rattle.nft_tree.specs.Tree.{operand_tree, statement};
+ghost use Rattle.nft_tree.specs.TreeViews.{operand_tree, statement};
 ghost use Rattle.rule_types.specs.Types.{statement_mismatches};
 ghost use Rattle.rule_values.specs.Faults.{statement_out_of_range};
 ghost use Rattle.rule_meaning.specs.Statements.{operand_number};

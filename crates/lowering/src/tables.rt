@@ -2,7 +2,7 @@
 ghost use Rattle.std.specs.Prelude.{◌≡◌, ℕ, false, map, is_some, IfOk, OnOk};
 ghost use Rattle.std.specs.Option.{option_map, option_or};
 ghost use Rattle.set_intervals.specs.Pairs.{first_value};
-ghost use Rattle.nft_tree.specs.Tree.{data_tree, element_tree, pair_tree, verdict_tree};
+ghost use Rattle.nft_tree.specs.TreeViews.{data_tree, element_tree, pair_tree, verdict_tree};
 ghost use Rattle.nft_tree.specs.declared.compared_types.ComparedType.TheVariants.{Named};
 ghost use Rattle.rule_types.specs.Types.{is_too_wide};
 ghost use Rattle.rule_meaning.specs.Sets.{data_number, data_verdict, key_numbers, pair_gives, spans};

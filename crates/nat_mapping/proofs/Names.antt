@@ -12,7 +12,8 @@ pub use Rattle.ip_headers.specs.steps.WordBytes.{first_word, words_after}
 pub use Rattle.list_laws.specs.Decisions.{Contains-cases, Contains-none, Contains-there}
 pub use Rattle.list_laws.specs.Lists.{Contains-head, any_of_map}
 pub use Rattle.list_laws.specs.Options.{IfSome_at, option_cases, some_of_map}
-pub use Rattle.nat_mapping.specs.Mappings.{HoldsSame, IsOneToOne, has_pool, is_port_held, or_else, order_of, pooled, same_mapping, share_pool, source_of}
+pub use Rattle.nat_mapping.specs.Mappings.{is_port_held, or_else, order_of, same_mapping, source_of}
+pub use Rattle.nat_mapping.specs.HeldMappings.{HoldsSame, IsOneToOne, has_pool, pooled, share_pool}
 pub use Rattle.nat_mapping.specs.declared.keys.InboundKey.{InboundKey}
 pub use Rattle.nat_mapping.specs.declared.keys.MappedPort.{MappedPort}
 pub use Rattle.nat_mapping.specs.declared.keys.PoolKey.{PoolKey}

@@ -1,3 +1,4 @@
 pub mod Mappings
+pub mod HeldMappings
 pub mod MappingsView
 pub mod steps

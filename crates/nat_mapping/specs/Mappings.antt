@@ -1,10 +1,9 @@
 -- The mappings of a NAT (RFC 4787, section 4.1), as the list of all that are held: each is in it once for
 -- each of its holders, so a mapping is live as long as it is in the list.
-use Rattle.std.specs.Prelude.{◌≡◌, ℕ, Bool, true, false, not, ◌&&◌, ◌==◌, is_some, List, Option}
-use Rattle.std.specs.Prelude.{Some, None, count_by, Contains}
-use Rattle.std.specs.List.{filter, find}
+use Rattle.std.specs.Prelude.{ℕ, Bool, not, ◌&&◌, ◌==◌, is_some, List, Option}
+use Rattle.std.specs.Prelude.{Some, None}
+use Rattle.std.specs.List.{find}
 use Rattle.std.specs.Option.{option_map}
-use Rattle.std.specs.Set.{distinct_count}
 use Rattle.ip_headers.specs.declared.tuple.Kind.{Kind}
 use Rattle.ip_headers.specs.declared.tuple.Kind.TheVariants.{Tcp, Udp, EchoRequest, EchoReply, Other}
 use Rattle.ip_headers.specs.declared.tuple.Endpoint.{Endpoint}
@@ -30,19 +29,7 @@ abbrev pub has_internal : Kind → Endpoint → ℕ → Mapping → Bool
 has_internal kind internal address m =
     same_kind m.kind kind && (same_endpoint m.internal internal && m.external.address == address)
 
--- both take their ports from the same pool: that of their kind at their external address
-abbrev pub share_pool : Mapping → Mapping → Bool
-share_pool a b = same_kind a.kind b.kind && a.external.address == b.external.address
-
 -- ---- the mappings held
-
--- how many holders a mapping has
-unfoldable pub holders_of : Mapping → List Mapping → ℕ
-holders_of m held = count_by (same_mapping m) held
-
--- the same mappings with as many holders each, in any order
-abbrev pub HoldsSame : List Mapping → List Mapping → Type 0
-HoldsSame one other = (m : Mapping) → holders_of m one ≡ holders_of m other
 
 -- the internal endpoint behind an external one (RFC 4787, section 5: inbound packets)
 unfoldable pub inbound_of : Kind → Endpoint → List Mapping → Option Endpoint
@@ -57,19 +44,6 @@ port_of kind internal address held =
 abbrev pub is_port_held : Kind → ℕ → List Mapping → ℕ → Bool
 is_port_held kind address held port =
     is_some (inbound_of kind (record { address = address; port = port }) held)
-
--- whether a kind has pools of ports: a protocol without ports has one mapping at an external address
-abbrev pub has_pool : Kind → Bool
-has_pool (Other number) = false
-has_pool _ = true
-
--- those that take a port of a pool
-abbrev pub pooled : List Mapping → List Mapping
-pooled held = filter (λ m. has_pool m.kind) held
-
--- how many pools they need: one for each kind and external address of those that take a port
-unfoldable pub pool_count_of : List Mapping → ℕ
-pool_count_of held = distinct_count share_pool (pooled held)
 
 -- ---- the port of a new mapping
 
@@ -96,14 +70,3 @@ first_free_port kind internal address range held =
 abbrev pub source_of : Kind → Endpoint → ℕ → Option CandidateRange → List Mapping → Option ℕ
 source_of kind internal address range held =
     or_else (port_of kind internal address held) (first_free_port kind internal address range held)
-
--- ---- the invariant
-
--- no external endpoint of a kind belongs to two internal ones, and no internal endpoint has two ports at one
--- external address (RFC 4787, REQ-1 and REQ-3)
-pub record IsOneToOne (held : List Mapping) : Type 0 where
-  pub one_internal : (m n : Mapping) → Contains held m → Contains held n
-      → m.kind ≡ n.kind → m.external ≡ n.external → m.internal ≡ n.internal
-  pub one_port : (m n : Mapping) → Contains held m → Contains held n
-      → m.kind ≡ n.kind → m.internal ≡ n.internal → m.external.address ≡ n.external.address
-      → m.external.port ≡ n.external.port

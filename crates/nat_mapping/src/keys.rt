@@ -4,7 +4,8 @@ ghost use Rattle.std.specs.Hash as fed;
 ghost use Rattle.ip_headers.specs.HashWords.{hash_word};
 ghost use Rattle.std.specs.Cmp.Rules.{hashing};
 ghost use Rattle.std.proofs.Common.{rules};
-ghost use Rattle.nat_mapping.specs.Mappings.{order_of, has_pool};
+ghost use Rattle.nat_mapping.specs.Mappings.{order_of};
+ghost use Rattle.nat_mapping.specs.HeldMappings.{has_pool};
 ghost use Rattle.nat_mapping.specs.steps.Keys.{inbound_key_of, inbound_writes, pool_key_of, pool_writes, source_key_of, source_writes};
 
 use ip_headers::laws::hash_words_differ;

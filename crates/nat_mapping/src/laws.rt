@@ -5,7 +5,8 @@ ghost use Rattle.ip_headers.specs.declared.tuple.Endpoint.{Endpoint};
 ghost use Rattle.ip_headers.specs.declared.tuple.Kind.{Kind};
 ghost use Rattle.ip_headers.specs.declared.tuple.Mapping.{Mapping};
 ghost use Rattle.port_pool.specs.declared.range.CandidateRange.{CandidateRange};
-ghost use Rattle.nat_mapping.specs.Mappings.{HoldsSame, IsOneToOne, inbound_of, port_of, source_of};
+ghost use Rattle.nat_mapping.specs.Mappings.{inbound_of, port_of, source_of};
+ghost use Rattle.nat_mapping.specs.HeldMappings.{HoldsSame, IsOneToOne};
 
 /// What keeps a list one to one: adding the mapping to the port that `source` gives, and removing
 /// mappings.

@@ -1,6 +1,6 @@
 //! Lists in braces.
 ghost use Rattle.std.specs.Prelude.{◌≡◌, ◌+◌, ◌-◌, ◌<◌, ◌≤◌, Some, drop, length, map, take, option_map, IfOk, IfSome};
-ghost use Rattle.nft_lexer.specs.Terminal.{terminal_of, terminals};
+ghost use Rattle.nft_lexer.specs.TokenViews.{terminal_of, terminals};
 ghost use Rattle.token_reader.specs.Readers.{IsRead, remaining};
 ghost use Rattle.nft_expressions.specs.steps.Reading.{after_plain, at_brace, enclosed_at, inside_at, comma_separated_at, up_to_brace_at};
 

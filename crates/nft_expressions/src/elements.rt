@@ -1,6 +1,7 @@
 //! Elements of sets (nft(8), "Elements").
 ghost use Rattle.std.specs.Prelude.{◌≡◌, ◌≤◌, length, IfOk};
-ghost use Rattle.nft_tree.specs.Tree.{ElementTree, ValueTree, element_tree, key_tree, value_tree};
+ghost use Rattle.nft_tree.specs.Tree.{ElementTree, ValueTree};
+ghost use Rattle.nft_tree.specs.TreeViews.{element_tree, key_tree, value_tree};
 ghost use Rattle.token_reader.specs.Readers.{remaining};
 ghost use Rattle.nft_expressions.specs.Elements.{element};
 ghost use Rattle.nft_expressions.specs.steps.Reading.{key_after, next_value_at};

@@ -1,7 +1,8 @@
 //! Lists of elements and of pairs.
 ghost use Rattle.std.specs.Prelude.{◌≡◌, List, IfOk, IfSome, IsSomeAnd, map};
 ghost use Rattle.nft_lexer.specs.Terminal.{Terminal};
-ghost use Rattle.nft_tree.specs.Tree.{ElementTree, PairTree, element_tree, pair_tree};
+ghost use Rattle.nft_tree.specs.Tree.{ElementTree, PairTree};
+ghost use Rattle.nft_tree.specs.TreeViews.{element_tree, pair_tree};
 ghost use Rattle.token_reader.specs.Readers.{IsAfter, IsRead, remaining};
 ghost use Rattle.nft_expressions.specs.Elements.{SpellsElements, SpellsPairs, elements, pairs};
 

@@ -1,7 +1,8 @@
 //! Elements of maps (nft(8), "Maps").
 ghost use Rattle.std.specs.Prelude.{◌≡◌, option_map, IfOk};
 ghost use Rattle.nft_lexer.specs.declared.token.Punctuator.TheVariants as punctuators;
-ghost use Rattle.nft_tree.specs.Tree.{PairTree, data_tree, pair_tree, range_tree, value_tree};
+ghost use Rattle.nft_tree.specs.Tree.{PairTree};
+ghost use Rattle.nft_tree.specs.TreeViews.{data_tree, pair_tree, range_tree, value_tree};
 ghost use Rattle.token_reader.specs.Grammar.{punctuation, ◌⨾◌, ◌◃◌};
 ghost use Rattle.token_reader.specs.Readers.{IsRead};
 ghost use Rattle.nft_expressions.specs.Elements.{comment, is_data_value, map_data, pair, range};

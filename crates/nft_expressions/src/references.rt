@@ -1,7 +1,7 @@
 //! References to sets and maps, named or anonymous.
 ghost use Rattle.std.specs.Prelude.{map, IfOk};
 ghost use Rattle.nft_lexer.specs.declared.token.Punctuator.TheVariants as punctuators;
-ghost use Rattle.nft_tree.specs.Tree.{map_ref_tree, set_ref_tree};
+ghost use Rattle.nft_tree.specs.TreeViews.{map_ref_tree, set_ref_tree};
 ghost use Rattle.token_reader.specs.Grammar.{a_word, punctuation, ◌▹◌};
 ghost use Rattle.token_reader.specs.Readers.{Anything, IsRead, Reads};
 ghost use Rattle.nft_expressions.specs.Elements.{map_ref, set_ref};

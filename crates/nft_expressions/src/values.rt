@@ -1,6 +1,6 @@
 //! Values, ranges and comments.
 ghost use Rattle.std.specs.Prelude.{◌≡◌, ◌≤◌, Some, length, option_map, IfOk};
-ghost use Rattle.nft_tree.specs.Tree.{range_tree, value_tree};
+ghost use Rattle.nft_tree.specs.TreeViews.{range_tree, value_tree};
 ghost use Rattle.token_reader.specs.Grammar.{punctuation, ◌▹◌};
 ghost use Rattle.token_reader.specs.Readers.{IsRead, Reads, remaining};
 ghost use Rattle.nft_expressions.specs.Elements.{EndsComment, EndsRange, comment, range, value};

@@ -1,6 +1,6 @@
 //! Verdicts (nft(8), "Verdict statement").
 ghost use Rattle.std.specs.Prelude.{IfOk};
-ghost use Rattle.nft_tree.specs.Tree.{verdict_tree};
+ghost use Rattle.nft_tree.specs.TreeViews.{verdict_tree};
 ghost use Rattle.token_reader.specs.Grammar.{a_word, keyword, one_of, ◌▹◌};
 ghost use Rattle.token_reader.specs.Readers.{Anything, IsRead, Reads};
 ghost use Rattle.nft_expressions.specs.Elements.{verdict_keywords, verdict};

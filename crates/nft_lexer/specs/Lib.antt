@@ -1,4 +1,5 @@
 pub mod Terminal
+pub mod TokenViews
 pub mod Lexing
 pub mod steps
 pub mod Codes

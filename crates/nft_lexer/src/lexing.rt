@@ -1,7 +1,8 @@
 //! The lexer's main loop.
 ghost use Rattle.std.specs.Prelude.{◌≡◌, ◌<◌, ◌≤◌, ◌↔◌, ◌⊎◌, ◌++◌, Err, IfOk, OnOk, List, length, map, ok_or, MatchResult};
 ghost use Rattle.nft_lexer.specs.declared.fault.LexFault.{LexFault};
-ghost use Rattle.nft_lexer.specs.Terminal.{LexedToken, spelled};
+ghost use Rattle.nft_lexer.specs.Terminal.{LexedToken};
+ghost use Rattle.nft_lexer.specs.TokenViews.{spelled};
 ghost use Rattle.nft_lexer.specs.Lexing.{FirstFault, HasLexFault, TokenizesTo, MOST_BYTES, line_after};
 ghost use Rattle.nft_lexer.specs.steps.Reading.{listed, next_at, at_line, map_ok, tokens_of};
 

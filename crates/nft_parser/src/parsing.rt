@@ -1,9 +1,10 @@
 //! From a text to its syntax tree.
 ghost use Rattle.std.specs.Prelude.{◌≡◌, ◌<◌, ◌↔◌, ◌⊎◌, List, length, Err, IfOk, MatchResult};
 ghost use Rattle.nft_lexer.specs.declared.fault.LexFault.{LexFault};
-ghost use Rattle.nft_lexer.specs.Terminal.{terminals};
+ghost use Rattle.nft_lexer.specs.TokenViews.{terminals};
 ghost use Rattle.nft_lexer.specs.Lexing.{MOST_BYTES};
-ghost use Rattle.nft_tree.specs.Tree.{TableTree, tables_of};
+ghost use Rattle.nft_tree.specs.Tree.{TableTree};
+ghost use Rattle.nft_tree.specs.TreeViews.{tables_of};
 ghost use Rattle.nft_parser.specs.declared.fault.ParseError.{ParseError};
 ghost use Rattle.nft_parser.specs.declared.fault.TextFault.{TextFault};
 ghost use Rattle.nft_rulesets.specs.UnsupportedWords.{has_unsupported};

@@ -1,7 +1,7 @@
 //! The bits of `ct state` and `ct status` (nft(8), "Conntrack expressions").
 ghost use Rattle.std.specs.Prelude.{ℕ, IfOk, List, map};
 ghost use Rattle.std.specs.List.{list_all};
-ghost use Rattle.nft_tree.specs.Tree.{match_tree};
+ghost use Rattle.nft_tree.specs.TreeViews.{match_tree};
 ghost use Rattle.token_reader.specs.Grammar.{a_word, passing};
 ghost use Rattle.token_reader.specs.Readers.{IsRead};
 ghost use Rattle.nft_expressions.specs.Selectors.{is_word_for};

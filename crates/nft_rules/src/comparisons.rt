@@ -1,6 +1,6 @@
 //! Comparisons of a selector with a value, a range or a prefix.
 ghost use Rattle.std.specs.Prelude.{◌≡◌, IfOk};
-ghost use Rattle.nft_tree.specs.Tree.{match_tree, value_tree};
+ghost use Rattle.nft_tree.specs.TreeViews.{match_tree, value_tree};
 ghost use Rattle.token_reader.specs.Readers.{IsRead};
 ghost use Rattle.nft_rules.specs.Matches.{comparison, is_value_for};
 

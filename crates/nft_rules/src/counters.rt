@@ -3,7 +3,7 @@
 #![tactic(auto, unfolding(crate::specs::Rules::counter, crate::specs::Rules::log, crate::specs::Rules::notrack))]
 
 ghost use Rattle.std.specs.Prelude.{IfOk};
-ghost use Rattle.nft_tree.specs.Tree.{statement};
+ghost use Rattle.nft_tree.specs.TreeViews.{statement};
 ghost use Rattle.token_reader.specs.Readers.{IsRead};
 ghost use Rattle.nft_rules.specs.Rules.{counter, log, notrack};
 

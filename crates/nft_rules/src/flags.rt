@@ -2,7 +2,8 @@
 ghost use Rattle.std.specs.Prelude.{◌≡◌, IfOk, map};
 ghost use Rattle.std.specs.List.{list_all};
 ghost use Rattle.nft_lexer.specs.declared.token.Punctuator.TheVariants.{Bar, Comma};
-ghost use Rattle.nft_tree.specs.Tree.{FlagTree, flag_tree, match_tree};
+ghost use Rattle.nft_tree.specs.Tree.{FlagTree};
+ghost use Rattle.nft_tree.specs.TreeViews.{flag_tree, match_tree};
 ghost use Rattle.token_reader.specs.Grammar.{punctuation, ◌∣◌, ◌▹◌};
 ghost use Rattle.token_reader.specs.Readers.{IsRead};
 ghost use Rattle.nft_rules.specs.Matches.{flag, flag_group, flag_list, flags, is_flag, masked, masked_by};

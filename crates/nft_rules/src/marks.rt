@@ -3,7 +3,7 @@
 #![tactic(auto, unfolding(crate::specs::Rules::map_lookup, crate::specs::Rules::operand))]
 
 ghost use Rattle.std.specs.Prelude.{◌≡◌, IfOk};
-ghost use Rattle.nft_tree.specs.Tree.{map_lookup_tree, operand_tree};
+ghost use Rattle.nft_tree.specs.TreeViews.{map_lookup_tree, operand_tree};
 ghost use Rattle.token_reader.specs.Readers.{IsRead};
 ghost use Rattle.nft_rules.specs.Rules.{map_lookup, mark_field, operand};
 

@@ -2,7 +2,7 @@
 ghost use Rattle.std.specs.Prelude.{◌≡◌, ◌∷◌, IfOk};
 ghost use Rattle.nft_lexer.specs.declared.token.Punctuator.TheVariants.{Dot};
 ghost use Rattle.nft_tree.specs.declared.selector.Selector.{Selector};
-ghost use Rattle.nft_tree.specs.Tree.{match_tree};
+ghost use Rattle.nft_tree.specs.TreeViews.{match_tree};
 ghost use Rattle.token_reader.specs.Grammar.{punctuation, ◌▹◌};
 ghost use Rattle.token_reader.specs.Readers.{IsRead};
 ghost use Rattle.nft_expressions.specs.Selectors.{selector};

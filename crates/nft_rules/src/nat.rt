@@ -3,7 +3,8 @@
 
 ghost use Rattle.std.specs.Prelude.{codes, option_map, IfOk};
 ghost use Rattle.nft_lexer.specs.declared.token.Punctuator.TheVariants.{Colon};
-ghost use Rattle.nft_tree.specs.Tree.{source_address, source_lookup, source_tree, destination_address, destination_lookup, destination_tree, nat_tree};
+ghost use Rattle.nft_tree.specs.Tree.{source_address, source_lookup, destination_address, destination_lookup};
+ghost use Rattle.nft_tree.specs.TreeViews.{source_tree, destination_tree, nat_tree};
 ghost use Rattle.token_reader.specs.Grammar.{keyword, punctuation, a_number, ◌▹◌};
 ghost use Rattle.token_reader.specs.Readers.{IsRead};
 ghost use Rattle.nft_rules.specs.Rules.{ports, to_word, target, nat};

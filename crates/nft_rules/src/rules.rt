@@ -1,7 +1,8 @@
 //! Rules (nft(8), "Rules").
 ghost use Rattle.std.specs.Prelude.{◌≡◌, List, IfOk, IfSome, IsSomeAnd};
 ghost use Rattle.nft_lexer.specs.Terminal.{Terminal};
-ghost use Rattle.nft_tree.specs.Tree.{RuleTree, rule_tree};
+ghost use Rattle.nft_tree.specs.Tree.{RuleTree};
+ghost use Rattle.nft_tree.specs.TreeViews.{rule_tree};
 ghost use Rattle.token_reader.specs.Readers.{IsAfter, IsRead, remaining};
 ghost use Rattle.nft_rules.specs.Rules.{SpellsEndedRule, ended_rule};
 

@@ -1,6 +1,7 @@
 //! Statements (nft(8), "Statements").
 ghost use Rattle.std.specs.Prelude.{IfOk};
-ghost use Rattle.nft_tree.specs.Tree.{Statement, matching, statement};
+ghost use Rattle.nft_tree.specs.Tree.{Statement, matching};
+ghost use Rattle.nft_tree.specs.TreeViews.{statement};
 ghost use Rattle.token_reader.specs.Grammar.{made, ◌∣◌};
 ghost use Rattle.token_reader.specs.Readers.{IsRead};
 ghost use Rattle.nft_rules.specs.Matches as matches;

@@ -1,6 +1,7 @@
 //! Chains and their rules (nft(8), "Chains").
 ghost use Rattle.std.specs.Prelude.{IfOk};
-ghost use Rattle.nft_tree.specs.Tree.{RuleTree, rule_tree, chain_tree};
+ghost use Rattle.nft_tree.specs.Tree.{RuleTree};
+ghost use Rattle.nft_tree.specs.TreeViews.{rule_tree, chain_tree};
 ghost use Rattle.token_reader.specs.Readers.{IsRead};
 ghost use Rattle.nft_rules.specs.Rules.{ended_rule};
 ghost use Rattle.nft_rulesets.specs.Chains.{chain};

@@ -1,6 +1,7 @@
 //! Lists of elements and of pairs, as productions.
 ghost use Rattle.std.specs.Prelude.{List, map};
-ghost use Rattle.nft_tree.specs.Tree.{ElementTree, PairTree, element_tree, pair_tree};
+ghost use Rattle.nft_tree.specs.Tree.{ElementTree, PairTree};
+ghost use Rattle.nft_tree.specs.TreeViews.{element_tree, pair_tree};
 ghost use Rattle.nft_expressions.specs.Elements.{elements, pairs};
 
 use nft_expressions::{elems, pairs};

@@ -1,6 +1,6 @@
 //! The hook specification of a base chain (nft(8), "Chains").
 ghost use Rattle.std.specs.Prelude.{IfOk};
-ghost use Rattle.nft_tree.specs.Tree.{head_tree};
+ghost use Rattle.nft_tree.specs.TreeViews.{head_tree};
 ghost use Rattle.token_reader.specs.Readers.{IsRead};
 ghost use Rattle.nft_rulesets.specs.Chains.{head, offset, priority};
 

@@ -1,6 +1,6 @@
 //! Named sets and maps.
 ghost use Rattle.std.specs.Prelude.{IfOk};
-ghost use Rattle.nft_tree.specs.Tree.{map_tree, set_tree};
+ghost use Rattle.nft_tree.specs.TreeViews.{map_tree, set_tree};
 ghost use Rattle.token_reader.specs.Readers.{IsRead};
 ghost use Rattle.nft_rulesets.specs.Sets.{named_map, named_set};
 

@@ -1,8 +1,9 @@
 //! Tables, their items, and rulesets.
 ghost use Rattle.std.specs.Prelude.{◌≡◌, List, IfOk, IfSome, IsSomeAnd};
 ghost use Rattle.std.specs.Option.{option_map};
-ghost use Rattle.nft_lexer.specs.Terminal.{terminals};
-ghost use Rattle.nft_tree.specs.Tree.{ItemTree, TableTree, item_tree, table_tree, tables_of};
+ghost use Rattle.nft_lexer.specs.TokenViews.{terminals};
+ghost use Rattle.nft_tree.specs.Tree.{ItemTree, TableTree};
+ghost use Rattle.nft_tree.specs.TreeViews.{item_tree, table_tree, tables_of};
 ghost use Rattle.token_reader.specs.Readers.{IsRead};
 ghost use Rattle.token_reader.specs.Grammar.{ends, ◌◃◌};
 ghost use Rattle.nft_rulesets.specs.Rulesets.{SpellsRuleset, flush, item, table, table_name};

@@ -1,7 +1,8 @@
 //! The types of keys and data.
 ghost use Rattle.nft_tree.specs.declared.selector.ValueType.{ValueType};
 ghost use Rattle.nft_tree.specs.declared.set.MapType.{MapType};
-ghost use Rattle.nft_tree.specs.Tree.{SetTypeTree, set_type_tree};
+ghost use Rattle.nft_tree.specs.Tree.{SetTypeTree};
+ghost use Rattle.nft_tree.specs.TreeViews.{set_type_tree};
 ghost use Rattle.token_reader.specs.Readers.{IsRead};
 ghost use Rattle.nft_rulesets.specs.Sets.{data_selector, data_type, map_type, set_type, value_type};
 

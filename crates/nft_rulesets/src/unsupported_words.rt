@@ -1,6 +1,6 @@
 //! Words of nft(8) that this profile doesn't support.
 ghost use Rattle.std.specs.Prelude.{◌≡◌};
-ghost use Rattle.nft_lexer.specs.Terminal.{terminal_of, terminals};
+ghost use Rattle.nft_lexer.specs.TokenViews.{terminal_of, terminals};
 ghost use Rattle.nft_rulesets.specs.UnsupportedWords.{has_unsupported, is_unsupported};
 
 use nft_lexer::{Token, TokenKind};

@@ -6,7 +6,8 @@ use Rattle.std.proofs.lemmas.Option.{slice_get_past, slice_get_read}
 use Rattle.std.proofs.Math.Seq.{drop-cons}
 use Rattle.std.specs.List.{filter_map, cons_option}
 use Rattle.nft_tree.specs.declared.ruleset.Item.{Item}
-use Rattle.nft_tree.specs.Tree.{ChainTree, item_tree}
+use Rattle.nft_tree.specs.Tree.{ChainTree}
+use Rattle.nft_tree.specs.TreeViews.{item_tree}
 use Rattle.nft_tree.specs.TableItems.{chain_in, numbered_from_one}
 
 -- The chains among some items.

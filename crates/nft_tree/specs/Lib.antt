@@ -1,4 +1,5 @@
 pub mod Tree
+pub mod TreeViews
 pub mod ValueTypes
 pub mod ComparedTypes
 pub mod Priorities

@@ -4,11 +4,11 @@ ghost use Rattle.nft_tree.specs.Tree.{ChainTree, DataTree, DestinationTree, Elem
 ghost use Rattle.nft_tree.specs.Tree.{ItemTree, KeyTree, MapLookupTree, MapRefTree, MapTree, MatchTree, NatTree};
 ghost use Rattle.nft_tree.specs.Tree.{OperandTree, PairTree, RangeTree, RuleTree, SetRefTree, SetTree, SetTypeTree};
 ghost use Rattle.nft_tree.specs.Tree.{SourceTree, Statement, TableTree, ValueTree, VerdictTree};
-ghost use Rattle.nft_tree.specs.Tree.{chain_tree, data_tree, destination_tree, element_tree, flag_tree, head_tree};
-ghost use Rattle.nft_tree.specs.Tree.{item_tree, key_tree, map_lookup_tree, map_ref_tree, map_tree, match_tree};
-ghost use Rattle.nft_tree.specs.Tree.{nat_tree, operand_tree, pair_tree, range_tree, rule_tree, set_ref_tree};
-ghost use Rattle.nft_tree.specs.Tree.{set_tree, set_type_tree, source_tree, statement, table_tree, tables_of};
-ghost use Rattle.nft_tree.specs.Tree.{value_tree, verdict_tree};
+ghost use Rattle.nft_tree.specs.TreeViews.{chain_tree, data_tree, destination_tree, element_tree, flag_tree, head_tree};
+ghost use Rattle.nft_tree.specs.TreeViews.{item_tree, key_tree, map_lookup_tree, map_ref_tree, map_tree, match_tree};
+ghost use Rattle.nft_tree.specs.TreeViews.{nat_tree, operand_tree, pair_tree, range_tree, rule_tree, set_ref_tree};
+ghost use Rattle.nft_tree.specs.TreeViews.{set_tree, set_type_tree, source_tree, statement, table_tree, tables_of};
+ghost use Rattle.nft_tree.specs.TreeViews.{value_tree, verdict_tree};
 ghost use Rattle.std.specs.Prelude.{◌≡◌, List, map, IfOk};
 
 use crate::chain::{Chain, Head, Rule};

@@ -2,7 +2,7 @@
 ghost use Rattle.std.specs.Prelude.{◌≡◌, length, slice_get};
 ghost use Rattle.nft_tree.specs.ComparedTypes.{compared_type_width, key_compared_types, map_data_compared_type};
 ghost use Rattle.nft_tree.specs.ComparedTypes.{map_key_compared_type, selector_compared_type};
-ghost use Rattle.nft_tree.specs.Tree.{set_type_tree};
+ghost use Rattle.nft_tree.specs.TreeViews.{set_type_tree};
 
 use crate::selector::{Selector, ValueType};
 use crate::set::{MapType, SelectorOrVerdict, SetType, TypeOrVerdict};

@@ -1,7 +1,7 @@
 //! A table's items by kind and number, and the initial values of counters.
 ghost use Rattle.std.specs.Prelude.{◌≡◌, slice_get};
 ghost use Rattle.std.specs.Option.{option_map};
-ghost use Rattle.nft_tree.specs.Tree.{chain_tree, item_tree, map_tree, rule_tree, set_tree, statement, table_tree, tables_of};
+ghost use Rattle.nft_tree.specs.TreeViews.{chain_tree, item_tree, map_tree, rule_tree, set_tree, statement, table_tree, tables_of};
 ghost use Rattle.nft_tree.specs.TableItems.{chain_in, chain_numbered, chains_of, counter_in, map_in, numbered_from_one, rule_numbered, set_in};
 
 use crate::chain::{Chain, Rule};

@@ -2,7 +2,7 @@
 ghost use Rattle.std.specs.Prelude.{◌≡◌, ◌<◌, ◌^◌, IfSome};
 ghost use Rattle.std.specs.Option.{option_map};
 ghost use Rattle.nft_tree.specs.Tree as tree;
-ghost use Rattle.nft_tree.specs.Tree.{range_tree, value_tree};
+ghost use Rattle.nft_tree.specs.TreeViews.{range_tree, value_tree};
 ghost use Rattle.nft_tree.specs.ComparedTypes.{compared_type_width};
 ghost use Rattle.nft_values.specs.Values.{has_numbers, is_range, is_range_on_box, numbers_of, prefix_span, range_span, span_of};
 ghost use Rattle.nft_values.specs.steps.Bounds.{bounds_span};

@@ -1,7 +1,7 @@
 //! Whether a value is one of its type, and the numbers that it denotes.
 ghost use Rattle.std.specs.Prelude.{◌≡◌, ◌<◌, ◌&&◌, ◌^◌, nat_lt, true, is_some};
 ghost use Rattle.box_file.specs.Box.{name_of};
-ghost use Rattle.nft_tree.specs.Tree.{value_tree};
+ghost use Rattle.nft_tree.specs.TreeViews.{value_tree};
 ghost use Rattle.nft_tree.specs.ComparedTypes.{compared_type_width};
 ghost use Rattle.nft_values.specs.Values.{has_number, is_name_of, is_on_box, is_value, text_span, value_span};
 ghost use Rattle.nft_values.specs.steps.Bounds.{bounds_span};

@@ -11,7 +11,8 @@ use Rattle.pcap_io.specs.Pcap.{MOST_CAPTURED, MOST_RECORDS}
 use Rattle.pcap_io.specs.declared.fault.CaptureError.TheVariants.{Refused}
 use Rattle.pcap_io.specs.declared.fault.CaptureFault.{CaptureFault}
 use Rattle.pcap_io.specs.declared.fault.CaptureFault.TheVariants as faults
-use Rattle.pcap_io.specs.CaptureStates.{CaptureState, NextAnswers, READ_AHEAD, decides_next, is_ready, IsPartialRecord}
+use Rattle.pcap_io.specs.CaptureStates.{CaptureState, NextAnswers, decides_next, is_ready, IsPartialRecord}
+use Rattle.pcap_io.specs.ReadAhead.{READ_AHEAD}
 use Rattle.pcap_io.proofs.Steps.{number_in-append}
 
 -- by the bytes' number and the numbers of their header

@@ -25,10 +25,6 @@ pub record CaptureState : Type 0 where
   pub fault : Option CaptureError
   pub last : Option Recorded
 
--- the size of the buffer: the largest record with its header, so that a full buffer decides the next result
-abbrev pub READ_AHEAD : ℕ
-READ_AHEAD = 262160
-
 -- the reader has ended, and all its bytes were taken
 abbrev pub IsDone : CaptureState → Type 0
 IsDone s = (s.fault ≡ None) × (s.ended ≡ true) × (s.held ≡ [])

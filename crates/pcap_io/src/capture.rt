@@ -138,7 +138,8 @@ impl Capture {
     ghost use Rattle.pcap_io.specs.Counting.{one_failure};
     ghost use Rattle.pcap_io.specs.Pcap.{format_of, MOMENTS_END};
     ghost use Rattle.pcap_io.specs.Pcap as pcap;
-    ghost use Rattle.pcap_io.specs.CaptureStates.{CaptureState, READ_AHEAD, IsDone, ahead, is_ready, decides_next};
+    ghost use Rattle.pcap_io.specs.CaptureStates.{CaptureState, IsDone, ahead, is_ready, decides_next};
+    ghost use Rattle.pcap_io.specs.ReadAhead.{READ_AHEAD};
     ghost use Rattle.pcap_io.specs.CaptureStates.{IsPartialRecord, NextAnswers, ReadsRecord, RefusedBy, IsOfHeader};
     ghost use Rattle.pcap_io.specs.CaptureStates.{IsOfRecords, recorded};
     ghost use Rattle.pcap_io.specs.steps.Buffered.{IsBuffered};

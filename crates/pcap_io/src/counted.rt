@@ -3,7 +3,7 @@ ghost use Rattle.std.specs.Prelude.{◌≡◌, true, false, length, MatchResult}
 ghost use Rattle.std.specs.Io.{ReadsAtMost, WritesAtMost};
 ghost use Rattle.std.specs.Io.KnownBytes.{ReadConsumes, WriteAppends, Keeps};
 ghost use Rattle.pcap_io.specs.Counting as counting;
-ghost use Rattle.pcap_io.specs.Counting.{CountsRead, CountsWrite, CountsWritten, CountsFlush, CountsFlushed};
+ghost use Rattle.pcap_io.specs.CountedCalls.{CountsRead, CountsWrite, CountsWritten, CountsFlush, CountsFlushed};
 
 use crate::failures::Failures;
 use std::io;

@@ -2,7 +2,7 @@
 ghost use Rattle.std.specs.Prelude.{◌≡◌, ◌<◌, ◌≤◌, ◌+◌, ◌++◌, [], length, take, drop, vec_len, vec_capacity, true, false, IfOk, OnOk, OnErr};
 ghost use Rattle.std.specs.Io.KnownBytes.{Keeps};
 ghost use Rattle.pcap_io.specs.Counting.{one_failure};
-ghost use Rattle.pcap_io.specs.CaptureStates.{READ_AHEAD};
+ghost use Rattle.pcap_io.specs.ReadAhead.{READ_AHEAD};
 ghost use Rattle.pcap_io.specs.steps.ReadAhead as ahead;
 ghost use Rattle.pcap_io.specs.steps.ReadAhead.{BufferState, FillsBuffer};
 
@@ -30,7 +30,7 @@ pub struct ReadBuffer {
 
 impl Model for ReadBuffer {
     ghost use Rattle.std.specs.Prelude.{◌≡◌, ◌≤◌, take, slice_range, length, vec_capacity};
-    ghost use Rattle.pcap_io.specs.CaptureStates.{READ_AHEAD};
+    ghost use Rattle.pcap_io.specs.ReadAhead.{READ_AHEAD};
     ghost use Rattle.pcap_io.specs.steps.ReadAhead.{BufferState};
 
     ghost Value = { BufferState };

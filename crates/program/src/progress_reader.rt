@@ -2,7 +2,7 @@
 ghost use Rattle.std.specs.Prelude.{◌≡◌, ◌+◌, ◌^◌, ◌-◌, None, min};
 ghost use Rattle.std.specs.Io.{ReadsAtMost};
 ghost use Rattle.std.specs.Io.KnownBytes.{ReadConsumes};
-ghost use Rattle.pcap_io.specs.Counting.{CountsRead};
+ghost use Rattle.pcap_io.specs.CountedCalls.{CountsRead};
 
 use pcap_io::Counted;
 use std::io::{Eprint, Read};

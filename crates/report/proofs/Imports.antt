@@ -4,7 +4,8 @@ pub use Rattle.history.specs.Outcomes.{report_index}
 pub use Rattle.history.specs.declared.outcome.Cause.{Cause}
 pub use Rattle.nft_tree.proofs.Chains.{chains_among}
 pub use Rattle.nft_tree.specs.TableItems.{chains_of, counter_in, numbered_from_one}
-pub use Rattle.nft_tree.specs.Tree.{ChainTree, TableTree, Text, chain_tree, rule_tree, statement, table_tree, tables_of}
+pub use Rattle.nft_tree.specs.Tree.{ChainTree, TableTree, Text}
+pub use Rattle.nft_tree.specs.TreeViews.{chain_tree, rule_tree, statement, table_tree, tables_of}
 pub use Rattle.nft_tree.specs.declared.statement.CounterStart.{CounterStart}
 pub use Rattle.pcap_io.specs.Counting.{AppendsPrefix}
 pub use Rattle.report.specs.Report.{and_number, drop_line, entry_lines, next_number, next_position}

@@ -1,6 +1,6 @@
 //! Lines of counters.
 ghost use Rattle.std.specs.Prelude.{◌≡◌};
-ghost use Rattle.nft_tree.specs.Tree.{chain_tree, rule_tree, table_tree, tables_of};
+ghost use Rattle.nft_tree.specs.TreeViews.{chain_tree, rule_tree, table_tree, tables_of};
 ghost use Rattle.nft_tree.specs.TableItems.{chains_of};
 ghost use Rattle.report.specs.steps.Paging.{Puts};
 ghost use Rattle.report.specs.steps.TallyLines.{position_of, tally_or_zero, tally_line, chains_text, rules_text, statements_text, tables_text};

@@ -1,8 +1,8 @@
 //! Chains and statements by their numbers, and the report's words.
 ghost use Rattle.std.specs.Prelude.{◌≡◌, ◌++◌};
 ghost use Rattle.std.specs.Option.{option_map};
-ghost use Rattle.nft_tree.specs.Tree as tree;
-ghost use Rattle.nft_tree.specs.Tree.{chain_tree, rule_tree, table_tree, tables_of};
+ghost use Rattle.nft_tree.specs.TreeViews as tree;
+ghost use Rattle.nft_tree.specs.TreeViews.{chain_tree, rule_tree, table_tree, tables_of};
 ghost use Rattle.nft_tree.specs.TableItems.{numbered_from_one};
 ghost use Rattle.report.specs.Report as words;
 ghost use Rattle.report.specs.Report.{and_word, chain_at, verdict_words, prefix_in};

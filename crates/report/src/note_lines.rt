@@ -1,7 +1,7 @@
 //! Lines of notes.
 ghost use Rattle.std.specs.Prelude.{◌≡◌, ℕ, true};
 ghost use Rattle.std.specs.List.{flat_map};
-ghost use Rattle.nft_tree.specs.Tree.{tables_of};
+ghost use Rattle.nft_tree.specs.TreeViews.{tables_of};
 ghost use Rattle.report.specs.Report.{event_line, outcome_line};
 ghost use Rattle.report.specs.Representing.{note_line};
 ghost use Rattle.report.specs.steps.NoteLines.{line_text};

@@ -1,7 +1,8 @@
 //! The report of a run.
 ghost use Rattle.std.specs.Prelude.{◌≡◌, ◌<◌, ◌≤◌, ◌+◌, ◌++◌, [], ◌∷◌, Bool, List, length, max, true, IfOk, IsOk, OnErr, OnOk};
 ghost use Rattle.pcap_io.specs.Counting.{one_failure, one_more};
-ghost use Rattle.nft_tree.specs.Tree.{Text, TableTree, tables_of};
+ghost use Rattle.nft_tree.specs.Tree.{Text, TableTree};
+ghost use Rattle.nft_tree.specs.TreeViews.{tables_of};
 ghost use Rattle.history.specs.History.{Entry, IsEntry};
 ghost use Rattle.report.specs.Report.{closing_lines, entry_lines};
 ghost use Rattle.std.specs.List.{flat_map};

@@ -70,7 +70,7 @@ impl Model for RuleTallies {
 
 impl RuleTallies {
     ghost use Rattle.std.specs.Prelude.{◌≡◌, ◌<◌, ◌^◌, All, IfOk};
-    ghost use Rattle.nft_tree.specs.Tree.{rule_tree};
+    ghost use Rattle.nft_tree.specs.TreeViews.{rule_tree};
     ghost use Rattle.nft_tree.specs.TableItems.{numbered_from_one};
     ghost use Rattle.report.specs.steps.Tallying.{fresh_rule, rule_counted};
 
@@ -124,7 +124,7 @@ impl Model for ChainTallies {
 impl ChainTallies {
     ghost use Rattle.std.specs.Prelude.{◌≡◌, ◌<◌, ◌^◌, All, IfOk};
     ghost use Rattle.std.specs.Option.{option_and_then};
-    ghost use Rattle.nft_tree.specs.Tree.{chain_tree};
+    ghost use Rattle.nft_tree.specs.TreeViews.{chain_tree};
     ghost use Rattle.nft_tree.specs.TableItems.{numbered_from_one};
     ghost use Rattle.report.specs.steps.Tallying.{fresh_chain, chain_counted};
 
@@ -181,7 +181,7 @@ impl Model for TableTallies {
 impl TableTallies {
     ghost use Rattle.std.specs.Prelude.{◌≡◌, ◌<◌, ◌^◌, All, IfOk, slice_get};
     ghost use Rattle.std.specs.Option.{option_and_then};
-    ghost use Rattle.nft_tree.specs.Tree.{table_tree};
+    ghost use Rattle.nft_tree.specs.TreeViews.{table_tree};
     ghost use Rattle.nft_tree.specs.TableItems.{numbered_from_one};
     ghost use Rattle.report.specs.steps.Tallying.{fresh_table, table_counted};
 
@@ -234,7 +234,7 @@ impl Model for RulesetTallies {
 
 impl RulesetTallies {
     ghost use Rattle.std.specs.Prelude.{◌≡◌, ◌<◌, ◌^◌, All, IfOk};
-    ghost use Rattle.nft_tree.specs.Tree.{tables_of};
+    ghost use Rattle.nft_tree.specs.TreeViews.{tables_of};
     ghost use Rattle.report.specs.Representing.{tally_at};
     ghost use Rattle.report.specs.steps.TallyLines.{position_of};
     ghost use Rattle.report.specs.steps.Tallying.{fresh, counted, counted_all};

@@ -1,6 +1,6 @@
 //! The checks, in order of their faults' numbers.
 ghost use Rattle.std.specs.Prelude.{◌≡◌, IfOk, IfErr};
-ghost use Rattle.nft_tree.specs.Tree.{tables_of};
+ghost use Rattle.nft_tree.specs.TreeViews.{tables_of};
 ghost use Rattle.box_file.specs.Box.{PlantTree};
 ghost use Rattle.rule_names.specs.Names.{DuplicateName};
 ghost use Rattle.rule_paths.specs.Findings.{AreFindings};

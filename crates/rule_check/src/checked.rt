@@ -1,6 +1,7 @@
 //! Rulesets that passed all checks.
 ghost use Rattle.std.specs.Prelude.{◌≡◌, ◌<◌, ◌≤◌, ℕ, List, [], IfOk, IfErr, get_or, slice_get, slice_index};
-ghost use Rattle.nft_tree.specs.Tree.{ChainTree, HeadTree, TableTree, tables_of};
+ghost use Rattle.nft_tree.specs.Tree.{ChainTree, HeadTree, TableTree};
+ghost use Rattle.nft_tree.specs.TreeViews.{tables_of};
 ghost use Rattle.nft_tree.specs.TableItems.{chains_of};
 ghost use Rattle.rule_paths.specs.Paths.{MAX_COST, MAX_JUMPS};
 ghost use Rattle.rule_paths.specs.Findings.{AreChainCosts, AreChainDepths, numbers_at};
@@ -38,7 +39,7 @@ impl Drop for Checked {
 }
 
 impl Model for Checked {
-    ghost use Rattle.nft_tree.specs.Tree.{tables_of};
+    ghost use Rattle.nft_tree.specs.TreeViews.{tables_of};
     ghost use Rattle.rule_check.specs.Checked.{CheckedTree, IsChecked};
 
     ghost Value = { CheckedTree };

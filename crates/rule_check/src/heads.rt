@@ -2,7 +2,7 @@
 ghost use Rattle.std.specs.Prelude.{◌≡◌};
 ghost use Rattle.std.specs.List.{list_any};
 ghost use Rattle.std.specs.Option.{option_map};
-ghost use Rattle.nft_tree.specs.Tree.{head_tree, item_tree, tables_of};
+ghost use Rattle.nft_tree.specs.TreeViews.{head_tree, item_tree, tables_of};
 ghost use Rattle.rule_check.specs.Chains.{has_misplaced_chain, head_is_misplaced, is_nat, is_without_nat, item_is_misplaced};
 
 use nft_tree::{ChainKind, Head, Hook, Item, Ruleset, any};

@@ -1,7 +1,7 @@
 //! Statements after one that ends its rule (N14).
 ghost use Rattle.std.specs.Prelude.{◌≡◌, map};
 ghost use Rattle.std.specs.List.{list_any};
-ghost use Rattle.nft_tree.specs.Tree.{item_tree, statement, tables_of};
+ghost use Rattle.nft_tree.specs.TreeViews.{item_tree, statement, tables_of};
 ghost use Rattle.rule_check.specs.Chains.{is_terminal, has_statement_after_terminal, has_unreachable_statement, item_has_unreachable};
 
 use nft_tree::{Item, Ruleset, Stmt, any};

@@ -1,7 +1,7 @@
 //! The numbers of elements of sets and maps, named and anonymous. Sums saturate at `usize::MAX`,
 //! far over the limit.
 ghost use Rattle.std.specs.Prelude.{◌≡◌, min};
-ghost use Rattle.nft_tree.specs.Tree.{item_tree, map_ref_tree, set_ref_tree, statement, tables_of};
+ghost use Rattle.nft_tree.specs.TreeViews.{item_tree, map_ref_tree, set_ref_tree, statement, tables_of};
 ghost use Rattle.rule_limits.specs.Limits.{element_count, item_elements, map_ref_elements, set_ref_elements, statement_elements};
 
 use nft_tree::{

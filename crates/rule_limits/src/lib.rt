@@ -2,7 +2,7 @@
 #![tactic(auto)]
 
 ghost use Rattle.std.specs.Prelude.{◌≡◌};
-ghost use Rattle.nft_tree.specs.Tree.{tables_of};
+ghost use Rattle.nft_tree.specs.TreeViews.{tables_of};
 ghost use Rattle.rule_limits.specs.Limits.{too_large};
 
 mod counts;

@@ -10,7 +10,8 @@ use Rattle.nft_tree.specs.declared.chain.Chain.{Chain}
 use Rattle.nft_tree.specs.declared.set.SetDecl.{SetDecl}
 use Rattle.nft_tree.specs.declared.set.MapDecl.{MapDecl}
 use Rattle.nft_tree.specs.declared.ruleset.Item.{Item}
-use Rattle.nft_tree.specs.Tree.{ItemTree, chain_tree, map_tree, set_tree}
+use Rattle.nft_tree.specs.Tree.{ItemTree}
+use Rattle.nft_tree.specs.TreeViews.{chain_tree, map_tree, set_tree}
 use Rattle.rule_names.specs.declared.table.Named.{Named}
 use Rattle.rule_names.specs.declared.table.NamedItems.{NamedItems}
 use Rattle.rule_names.specs.Names.{set_or_map_name}

@@ -1,6 +1,7 @@
 -- Names of other crates and of the definitions, for the proofs.
 pub use Rattle.list_laws.specs.Lists.{any_of_map, map-more}
-pub use Rattle.nft_tree.specs.Tree.{TableTree, Text, item_tree, table_tree}
+pub use Rattle.nft_tree.specs.Tree.{TableTree, Text}
+pub use Rattle.nft_tree.specs.TreeViews.{item_tree, table_tree}
 pub use Rattle.rule_names.specs.Names.{HasDuplicate, table_names}
 pub use Rattle.rule_names.specs.steps.Index.{IsAdded}
 pub use Rattle.rule_names.specs.steps.Table.{HasUniqueNames}

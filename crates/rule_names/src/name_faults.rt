@@ -1,7 +1,8 @@
 //! Faults of the names that rules and maps refer to.
 ghost use Rattle.std.specs.Prelude.{◌≡◌, List, flat_map, map};
 ghost use Rattle.std.specs.List.{list_any};
-ghost use Rattle.nft_tree.specs.Tree.{ItemTree, RuleTree, Statement, Text, item_tree, rule_tree, statement};
+ghost use Rattle.nft_tree.specs.Tree.{ItemTree, RuleTree, Statement, Text};
+ghost use Rattle.nft_tree.specs.TreeViews.{item_tree, rule_tree, statement};
 ghost use Rattle.rule_names.specs.Names.{jumps_to_base_chain, jumps_to_unknown_chain, refers_to_unknown_set};
 ghost use Rattle.rule_names.specs.steps.NameFaults.{has_fault, names_of_item, names_of_rule, names_of_statement, table_has_fault};
 

@@ -1,7 +1,7 @@
 //! References to sets and maps (`@name`).
 ghost use Rattle.std.specs.Prelude.{◌≡◌};
 ghost use Rattle.std.specs.List.{list_any};
-ghost use Rattle.nft_tree.specs.Tree.{map_ref_tree, set_ref_tree, statement};
+ghost use Rattle.nft_tree.specs.TreeViews.{map_ref_tree, set_ref_tree, statement};
 ghost use Rattle.rule_names.specs.Names.{map_ref_names, set_ref_names, statement_references};
 ghost use Rattle.rule_names.specs.steps.NameFaults.{is_unknown};
 

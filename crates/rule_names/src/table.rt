@@ -1,7 +1,8 @@
 //! Tables with lookup of their chains, sets and maps by name.
 ghost use Rattle.std.specs.Prelude.{◌≡◌, ◌↔◌, List, [], ◌∷◌, ◌++◌, All, IsTrue, is_some, map, IfOk, IfSome, MatchOption};
 ghost use Rattle.std.specs.Option.{option_map};
-ghost use Rattle.nft_tree.specs.Tree.{ItemTree, chain_tree, item_tree, map_tree, set_tree, table_tree, tables_of};
+ghost use Rattle.nft_tree.specs.Tree.{ItemTree};
+ghost use Rattle.nft_tree.specs.TreeViews.{chain_tree, item_tree, map_tree, set_tree, table_tree, tables_of};
 ghost use Rattle.nft_tree.specs.TableItems.{chains_of, maps_of, sets_of};
 ghost use Rattle.rule_names.specs.Names.{DuplicateName, HasDuplicate, chain_named, chain_names, is_base_chain};
 ghost use Rattle.rule_names.specs.Names.{is_set_or_map, map_named, map_names, index_in, set_named, set_names};
@@ -137,7 +138,8 @@ pub struct TableNames<'t> {
 }
 
 impl<'t> Model for TableNames<'t> {
-    ghost use Rattle.nft_tree.specs.Tree.{TableTree, table_tree};
+    ghost use Rattle.nft_tree.specs.Tree.{TableTree};
+    ghost use Rattle.nft_tree.specs.TreeViews.{table_tree};
     ghost use Rattle.rule_names.specs.steps.Table.{Represents};
 
     ghost Value = { TableTree };

@@ -1,7 +1,7 @@
 //! The targets of jumps and gotos.
 ghost use Rattle.std.specs.Prelude.{◌≡◌, map};
 ghost use Rattle.std.specs.List.{list_any};
-ghost use Rattle.nft_tree.specs.Tree.{map_ref_tree, pair_tree, statement, verdict_tree};
+ghost use Rattle.nft_tree.specs.TreeViews.{map_ref_tree, pair_tree, statement, verdict_tree};
 ghost use Rattle.rule_names.specs.Names.{data_target, map_ref_targets, one_or_none, pair_targets, statement_targets};
 ghost use Rattle.rule_names.specs.Names.{target_of};
 ghost use Rattle.rule_names.specs.steps.NameFaults.{passes};

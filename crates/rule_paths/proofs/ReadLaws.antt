@@ -5,7 +5,8 @@ use Rattle.std.specs.Borrow.{Bor}
 use Rattle.std.proofs.lemmas.List.{length-map, take_more}
 use Rattle.std.proofs.lemmas.List.Sums.{sum_by_push}
 use Rattle.nft_tree.specs.declared.chain.Chain.{Chain}
-use Rattle.nft_tree.specs.Tree.{Text, HeadTree, ChainTree, TableTree, chain_tree}
+use Rattle.nft_tree.specs.Tree.{Text, HeadTree, ChainTree, TableTree}
+use Rattle.nft_tree.specs.TreeViews.{chain_tree}
 use Rattle.nft_tree.specs.TableItems.{chains_of}
 use Rattle.chain_graph.specs.Measures.{saturated}
 use Rattle.rule_paths.specs.Paths.{Caller, a_chain, AreCosts, base_cost}

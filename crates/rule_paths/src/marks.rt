@@ -1,7 +1,7 @@
 //! Marks the chains that have NAT statements.
 ghost use Rattle.std.specs.Prelude.{◌≡◌, ◌≤◌, length, IfOk, Some};
 ghost use Rattle.std.specs.List.{list_any};
-ghost use Rattle.nft_tree.specs.Tree.{chain_tree, rule_tree, statement};
+ghost use Rattle.nft_tree.specs.TreeViews.{chain_tree, rule_tree, statement};
 ghost use Rattle.nft_tree.specs.TableItems.{chains_of};
 ghost use Rattle.rule_paths.specs.Paths.{chain_has};
 ghost use Rattle.rule_paths.specs.steps.Index.{marks_of, translates};

@@ -1,6 +1,6 @@
 //! NAT statements in, or reachable from, base chains that may not have them.
 ghost use Rattle.std.specs.Prelude.{◌≡◌, ◌↔◌, ◌≤◌, IsTrue, length, map, IfOk};
-ghost use Rattle.nft_tree.specs.Tree.{chain_tree};
+ghost use Rattle.nft_tree.specs.TreeViews.{chain_tree};
 ghost use Rattle.chain_graph.specs.Nodes.{graph_of, targets_of};
 ghost use Rattle.chain_graph.specs.Order.{IsTopologicalOrder};
 ghost use Rattle.rule_paths.specs.steps.Index.{may_not_translate, may_translate, IsTableGraph, ReachesMisplaced};

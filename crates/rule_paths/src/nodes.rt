@@ -1,7 +1,7 @@
 //! Building the call graph of a table.
 ghost use Rattle.std.specs.Prelude.{◌≡◌, ◌++◌, map, IfOk, Some};
 ghost use Rattle.std.specs.Option.{option_map};
-ghost use Rattle.nft_tree.specs.Tree.{chain_tree, map_tree, pair_tree, rule_tree, statement, verdict_tree};
+ghost use Rattle.nft_tree.specs.TreeViews.{chain_tree, map_tree, pair_tree, rule_tree, statement, verdict_tree};
 ghost use Rattle.chain_graph.specs.Nodes.{call_of, graph_of, node_of as node_tree, statements_of};
 ghost use Rattle.rule_paths.specs.Paths.{a_chain, pair_calls, statement_calls, verdict_calls};
 ghost use Rattle.rule_paths.specs.steps.Index.{call_if, chain_at, index_of, map_at, numbered_call, IsTableGraph};

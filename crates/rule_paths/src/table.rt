@@ -1,7 +1,7 @@
 //! The analysis of the jumps and gotos of one table.
 ghost use Rattle.std.specs.Prelude.{◌≡◌, ℕ, length, nat_lt, take, IfOk, MatchOption};
 ghost use Rattle.std.specs.List.{list_any};
-ghost use Rattle.nft_tree.specs.Tree.{chain_tree};
+ghost use Rattle.nft_tree.specs.TreeViews.{chain_tree};
 ghost use Rattle.nft_tree.specs.TableItems.{chains_of};
 ghost use Rattle.chain_graph.specs.Graph.{HasCycle};
 ghost use Rattle.chain_graph.specs.Nodes.{graph_of};

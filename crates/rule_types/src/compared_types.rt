@@ -1,6 +1,6 @@
 //! Properties of types: equality, width, whether they have an order and ranges.
 ghost use Rattle.std.specs.Prelude.{◌≡◌};
-ghost use Rattle.nft_tree.specs.Tree.{range_tree};
+ghost use Rattle.nft_tree.specs.TreeViews.{range_tree};
 ghost use Rattle.rule_types.specs.Types.{compare_mismatches, has_ranges, is_order, is_ordered, is_single};
 ghost use Rattle.rule_types.specs.Types.{range_mismatches, same_compared_type};
 

@@ -1,7 +1,7 @@
 //! The keys of sets: concatenated types, and elements.
 ghost use Rattle.std.specs.Prelude.{◌≡◌, map, slice_get};
 ghost use Rattle.std.specs.List.{list_any};
-ghost use Rattle.nft_tree.specs.Tree.{element_tree, key_tree, set_ref_tree, set_tree, set_type_tree};
+ghost use Rattle.nft_tree.specs.TreeViews.{element_tree, key_tree, set_ref_tree, set_tree, set_type_tree};
 ghost use Rattle.nft_tree.specs.ComparedTypes.{key_compared_types, selector_compared_type};
 ghost use Rattle.nft_tree.specs.declared.compared_types.ComparedType.TheVariants.{Named};
 ghost use Rattle.rule_names.specs.Names.{map_named, set_named};

@@ -1,7 +1,7 @@
 //! The keys and data of maps.
 ghost use Rattle.std.specs.Prelude.{◌≡◌, map};
 ghost use Rattle.std.specs.List.{list_any};
-ghost use Rattle.nft_tree.specs.Tree.{data_tree, map_ref_tree, map_tree, pair_tree};
+ghost use Rattle.nft_tree.specs.TreeViews.{data_tree, map_ref_tree, map_tree, pair_tree};
 ghost use Rattle.rule_names.specs.Names.{map_named, set_named};
 ghost use Rattle.rule_types.specs.Types.{data_mismatches, map_mismatches, map_ref_mismatches, named_map_mismatches, pair_mismatches, same_data};
 

@@ -1,6 +1,6 @@
 //! Type checking of statements.
 ghost use Rattle.std.specs.Prelude.{◌≡◌};
-ghost use Rattle.nft_tree.specs.Tree.{match_tree, statement};
+ghost use Rattle.nft_tree.specs.TreeViews.{match_tree, statement};
 ghost use Rattle.rule_types.specs.Types.{match_mismatches, statement_mismatches};
 
 use crate::compared_types::compare_mismatches;

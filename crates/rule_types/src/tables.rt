@@ -1,7 +1,8 @@
 //! Type checking of tables.
 ghost use Rattle.std.specs.Prelude.{◌≡◌, Bool, map};
 ghost use Rattle.std.specs.List.{list_any};
-ghost use Rattle.nft_tree.specs.Tree.{ItemTree, RuleTree, Statement, TableTree, item_tree, rule_tree, statement};
+ghost use Rattle.nft_tree.specs.Tree.{ItemTree, RuleTree, Statement, TableTree};
+ghost use Rattle.nft_tree.specs.TreeViews.{item_tree, rule_tree, statement};
 ghost use Rattle.rule_types.specs.Types.{item_mismatches, rule_mismatches, statement_mismatches, table_mismatches};
 
 use crate::keys::set_mismatches;

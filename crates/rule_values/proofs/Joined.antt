@@ -5,7 +5,7 @@ use Rattle.std.specs.List.{list_any}
 use Rattle.std.proofs.lemmas.List.{drop_all}
 use Rattle.nft_tree.specs.declared.compared_types.ComparedType.{ComparedType}
 use Rattle.nft_tree.specs.declared.values.Value.{Value}
-use Rattle.nft_tree.specs.Tree.{value_tree}
+use Rattle.nft_tree.specs.TreeViews.{value_tree}
 use Rattle.rule_values.specs.TypedValues.{TypedRange, typed_value, joined_ranges}
 
 -- the ranges of the parts from a part on

@@ -2,7 +2,7 @@
 ghost use Rattle.std.specs.Prelude.{◌≡◌, map};
 ghost use Rattle.std.specs.List.{list_any};
 ghost use Rattle.std.specs.Option.{option_map};
-ghost use Rattle.nft_tree.specs.Tree.{chain_tree, flag_tree, head_tree, item_tree, match_tree, nat_tree, rule_tree, statement};
+ghost use Rattle.nft_tree.specs.TreeViews.{chain_tree, flag_tree, head_tree, item_tree, match_tree, nat_tree, rule_tree, statement};
 ghost use Rattle.rule_values.specs.Faults.{are_ports, chain_out_of_range, flag_out_of_range, is_port};
 ghost use Rattle.rule_values.specs.Faults.{item_out_of_range, match_out_of_range, nat_out_of_range};
 ghost use Rattle.rule_values.specs.Faults.{priority_out_of_range, statement_out_of_range};

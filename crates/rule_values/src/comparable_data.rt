@@ -1,6 +1,6 @@
 //! Map data in a form that `==` compares.
 ghost use Rattle.std.specs.Prelude.{IfOk, OnOk};
-ghost use Rattle.nft_tree.specs.Tree.{data_tree, verdict_tree};
+ghost use Rattle.nft_tree.specs.TreeViews.{data_tree, verdict_tree};
 ghost use Rattle.rule_values.specs.Faults.{a_verdict, element_data};
 ghost use Rattle.rule_values.specs.steps.MapEntries.{RepresentsOptionalData, RepresentsData, IsNameIndex, KeepsIndices};
 

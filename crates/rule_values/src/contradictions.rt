@@ -1,7 +1,8 @@
 //! Overlapping map elements with different data.
 ghost use Rattle.std.specs.Prelude.{◌≡◌, [], flat_map, map, List, IfOk, OnOk};
 ghost use Rattle.std.specs.List.{list_any};
-ghost use Rattle.nft_tree.specs.Tree.{ItemTree, RuleTree, Statement, TableTree, item_tree, pair_tree, rule_tree, statement, table_tree};
+ghost use Rattle.nft_tree.specs.Tree.{ItemTree, RuleTree, Statement, TableTree};
+ghost use Rattle.nft_tree.specs.TreeViews.{item_tree, pair_tree, rule_tree, statement, table_tree};
 ghost use Rattle.rule_values.specs.TypedValues.{TypedMap, item_maps, maps_in, rule_maps, statement_maps};
 ghost use Rattle.rule_values.specs.Faults.{map_entry_of, map_contradicts};
 ghost use Rattle.rule_values.specs.steps.Views.{elements_tree};

@@ -1,7 +1,7 @@
 //! The elements of maps with the types of their keys and data.
 ghost use Rattle.std.specs.Prelude.{◌≡◌};
 ghost use Rattle.std.specs.Option.{option_map};
-ghost use Rattle.nft_tree.specs.Tree.{map_ref_tree, map_tree, statement};
+ghost use Rattle.nft_tree.specs.TreeViews.{map_ref_tree, map_tree, statement};
 ghost use Rattle.rule_values.specs.TypedValues.{anonymous_map, declared_map, statement_maps};
 ghost use Rattle.rule_values.specs.steps.Views.{elements_tree, listed};
 

@@ -4,7 +4,7 @@
 
 ghost use Rattle.std.specs.Prelude.{◌≡◌, IfOk};
 ghost use Rattle.std.specs.List.{list_any};
-ghost use Rattle.nft_tree.specs.Tree.{table_tree, tables_of};
+ghost use Rattle.nft_tree.specs.TreeViews.{table_tree, tables_of};
 ghost use Rattle.rule_values.specs.Faults.{has_contradiction, has_wrong_value, names_unknown_interface};
 
 mod bounds;

@@ -1,6 +1,6 @@
 //! The two checks of single values.
 ghost use Rattle.std.specs.Prelude.{◌≡◌};
-ghost use Rattle.nft_tree.specs.Tree.{range_tree, value_tree};
+ghost use Rattle.nft_tree.specs.TreeViews.{range_tree, value_tree};
 ghost use Rattle.rule_values.specs.TypedValues.{typed_value};
 ghost use Rattle.rule_values.specs.steps.Checks.{fails, typed_range};
 

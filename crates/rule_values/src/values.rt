@@ -1,8 +1,9 @@
 //! Applies a check to all values of a ruleset.
 ghost use Rattle.std.specs.Prelude.{◌≡◌, flat_map, map, List};
 ghost use Rattle.std.specs.List.{list_any};
-ghost use Rattle.nft_tree.specs.Tree.{ItemTree, RuleTree, Statement, data_tree, element_tree, item_tree, key_tree, match_tree};
-ghost use Rattle.nft_tree.specs.Tree.{pair_tree, rule_tree, set_ref_tree, statement, table_tree, value_tree};
+ghost use Rattle.nft_tree.specs.Tree.{ItemTree, RuleTree, Statement};
+ghost use Rattle.nft_tree.specs.TreeViews.{data_tree, element_tree, item_tree, key_tree, match_tree};
+ghost use Rattle.nft_tree.specs.TreeViews.{pair_tree, rule_tree, set_ref_tree, statement, table_tree, value_tree};
 ghost use Rattle.rule_values.specs.TypedValues.{TypedRange, data_ranges, element_ranges, item_ranges, joined_ranges, key_ranges};
 ghost use Rattle.rule_values.specs.TypedValues.{map_ranges, match_ranges, ranges_in, rule_ranges, set_ref_ranges};
 ghost use Rattle.rule_values.specs.TypedValues.{statement_ranges};

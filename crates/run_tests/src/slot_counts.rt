@@ -1,7 +1,8 @@
 //! The slots that each call of an aged tracker visits: as many beside thousands of connections as
 //! beside few.
 ghost use Rattle.std.specs.Prelude.{◌≡◌, IfSome};
-ghost use Rattle.conntrack.specs.ConntrackEntry.{IsNoneLater, belongs_in};
+ghost use Rattle.conntrack.specs.ConntrackEntry.{belongs_in};
+ghost use Rattle.conntrack.specs.TableEntries.{IsNoneLater};
 ghost use Rattle.conntrack.specs.Phases.{no_flags};
 
 use aged_tracker::AgedTracker;

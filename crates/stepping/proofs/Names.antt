@@ -1,7 +1,9 @@
 -- Names of other crates and of the definitions, for the proofs.
 pub use Rattle.box_file.specs.declared.limits.Limits.{Limits}
-pub use Rattle.conntrack.specs.ConntrackEntry.{IsNoneLater, SameExceptIds, belonging_without_id, belongs_in, has_distinct_ids}
-pub use Rattle.conntrack.specs.ConntrackEntry.{live_at, without_id}
+pub use Rattle.conntrack.specs.ConntrackEntry.{belongs_in}
+pub use Rattle.conntrack.specs.TableEntries.{IsNoneLater, SameExceptIds, belonging_without_id, has_distinct_ids}
+pub use Rattle.conntrack.specs.ConntrackEntry.{without_id}
+pub use Rattle.conntrack.specs.TableEntries.{live_at}
 pub use Rattle.conntrack.specs.Histories.{is_creation, live_list}
 pub use Rattle.conntrack.specs.Updates.{Arrival, Confirmation, Unconfirmed, after_end, after_packet, change_of_packet, entry_at}
 pub use Rattle.conntrack.specs.declared.belonging.Belonging.{Belonging}

@@ -1,6 +1,7 @@
 //! The end of a packet's path, as nf_conntrack_confirm: refreshes or begins its connection.
 ghost use Rattle.std.specs.Prelude.{◌≡◌, IsTrue, false};
-ghost use Rattle.conntrack.specs.ConntrackEntry.{IsNoneLater, is_taken};
+ghost use Rattle.conntrack.specs.ConntrackEntry.{is_taken};
+ghost use Rattle.conntrack.specs.TableEntries.{IsNoneLater};
 ghost use Rattle.conntrack.specs.declared.belonging.Belonging.{Belonging as TheBelonging};
 ghost use Rattle.translation.specs.declared.ct_info.CtInfo.TheVariants.{New};
 ghost use Rattle.translation.specs.Fitting.{Fits, IsFitting};

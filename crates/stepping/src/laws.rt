@@ -1,7 +1,7 @@
 //! Laws of entries, each the contract of a function that does nothing.
 ghost use Rattle.std.specs.Prelude.{◌≡◌, ◌≤◌, ℕ, IsTrue, List, Some};
 ghost use Rattle.conntrack.specs.declared.connection.ConntrackEntry.{ConntrackEntry};
-ghost use Rattle.conntrack.specs.ConntrackEntry.{SameExceptIds, has_distinct_ids, live_at};
+ghost use Rattle.conntrack.specs.TableEntries.{SameExceptIds, has_distinct_ids, live_at};
 ghost use Rattle.conntrack.specs.Histories.{live_list};
 ghost use Rattle.filter_vm.specs.Machine.{EventsAndTicks};
 ghost use Rattle.pcap_io.specs.Pcap.{Recorded};

@@ -1,6 +1,6 @@
 //! The connection look-up of a packet.
 ghost use Rattle.std.specs.Prelude.{◌≡◌, IsTrue};
-ghost use Rattle.conntrack.specs.ConntrackEntry.{IsNoneLater, live_at};
+ghost use Rattle.conntrack.specs.TableEntries.{IsNoneLater, live_at};
 ghost use Rattle.filter_vm.specs.Machine.{EventsAndTicks};
 ghost use Rattle.translation.specs.Fitting.{Fits};
 ghost use Rattle.translation.specs.LiveMappings.{mappings_in};

@@ -2,7 +2,7 @@
 ghost use Rattle.std.specs.Prelude.{◌≡◌, IsTrue, false, [], Some};
 ghost use Rattle.history.specs.declared.outcome.Outcome.TheVariants as outcomes;
 ghost use Rattle.ip_headers.specs.Header.{transport_of};
-ghost use Rattle.conntrack.specs.ConntrackEntry.{IsNoneLater, live_at};
+ghost use Rattle.conntrack.specs.TableEntries.{IsNoneLater, live_at};
 ghost use Rattle.hook_runs.specs.Stages.{total_stage_cost};
 ghost use Rattle.translation.specs.declared.ct_info.CtInfo.TheVariants.{Untracked};
 ghost use Rattle.stepping.specs.Carried.{carried};

@@ -2,7 +2,8 @@
 use Rattle.std.proofs.Common.{◌≡◌, ℕ, suc, ◌+◌, ◌-◌, ◌<◌, ◌≤◌, List, [], ◌∷◌, ◌++◌, length, drop, Option, Some, None, sym, ap, ◌∙◌, append_assoc, arith}
 use Rattle.std.proofs.lemmas.List.{append-nil, length-map, length-drop}
 use Rattle.nft_lexer.specs.declared.token.Token.{Token}
-use Rattle.nft_lexer.specs.Terminal.{Terminal, terminal_of}
+use Rattle.nft_lexer.specs.Terminal.{Terminal}
+use Rattle.nft_lexer.specs.TokenViews.{terminal_of}
 use Rattle.token_reader.specs.Readers.{remaining}
 use Rattle.token_reader.specs.steps.Reading.{many_at, all_at, with_front}
 use Rattle.token_reader.specs.steps.Laws.{many_at-none, many_at-some}

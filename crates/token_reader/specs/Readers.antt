@@ -1,7 +1,8 @@
 -- What a parsing function answers at a position in the tokens.
 use Rattle.std.specs.Prelude.{◌≡◌, ℕ, ◌<◌, ◌≤◌, List, length, Option, IfSome, IsSomeAnd, option_map, drop}
 use Rattle.nft_lexer.specs.declared.token.Token.{Token}
-use Rattle.nft_lexer.specs.Terminal.{Terminal, terminals}
+use Rattle.nft_lexer.specs.Terminal.{Terminal}
+use Rattle.nft_lexer.specs.TokenViews.{terminals}
 use Rattle.token_reader.specs.Grammar.{Grammar}
 
 -- The tokens from a position on.

@@ -3,7 +3,7 @@ use Rattle.std.proofs.Common.{◌≡◌, ℕ, List, ◌∷◌, Some, subst}
 use Rattle.std.specs.Prelude.{Contains}
 use Rattle.ip_headers.specs.declared.tuple.Endpoint.{Endpoint}
 use Rattle.ip_headers.specs.declared.tuple.Mapping.{Mapping}
-use Rattle.nat_mapping.specs.Mappings.{IsOneToOne}
+use Rattle.nat_mapping.specs.HeldMappings.{IsOneToOne}
 use Rattle.translation.specs.declared.external.ExternalSource.{ExternalSource}
 use Rattle.translation.specs.declared.ct_info.NewConnection.{NewConnection}
 use Rattle.translation.specs.Fitting.{IsFitting}

@@ -1,7 +1,7 @@
 -- When a connection may begin with the mappings of its first packet (own).
 use Rattle.std.specs.Prelude.{◌≡◌, List, ◌++◌, Some, Contains}
 use Rattle.ip_headers.specs.declared.tuple.Mapping.{Mapping}
-use Rattle.nat_mapping.specs.Mappings.{IsOneToOne}
+use Rattle.nat_mapping.specs.HeldMappings.{IsOneToOne}
 use Rattle.translation.specs.declared.ct_info.NewConnection.{NewConnection}
 use Rattle.translation.specs.declared.ct_info.CtInfo.{CtInfo}
 use Rattle.translation.specs.declared.ct_info.CtInfo.TheVariants.{New}

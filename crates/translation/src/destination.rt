@@ -1,7 +1,7 @@
 //! Destination NAT.
 ghost use Rattle.std.specs.Prelude.{◌≡◌, List};
 ghost use Rattle.ip_headers.specs.declared.tuple.Mapping.{Mapping as Mapped};
-ghost use Rattle.nat_mapping.specs.Mappings.{HoldsSame};
+ghost use Rattle.nat_mapping.specs.HeldMappings.{HoldsSame};
 ghost use Rattle.translation.specs.Fitting.{Fits, IsFitting};
 ghost use Rattle.translation.specs.CtInfos.{untranslated};
 ghost use Rattle.translation.specs.Nat.{statement_destination, internal_endpoint, with_destination_nat, has_ports};

@@ -3,7 +3,7 @@ ghost use Rattle.std.specs.Prelude.{◌≡◌, List, OnErr};
 ghost use Rattle.std.specs.Option.{option_map};
 ghost use Rattle.std.specs.Result.{result_ok};
 ghost use Rattle.ip_headers.specs.declared.tuple.Mapping.{Mapping as Mapped};
-ghost use Rattle.nat_mapping.specs.Mappings.{HoldsSame};
+ghost use Rattle.nat_mapping.specs.HeldMappings.{HoldsSame};
 ghost use Rattle.translation.specs.Fitting.{Fits, IsFitting};
 ghost use Rattle.translation.specs.CtInfos.{untranslated};
 ghost use Rattle.translation.specs.Nat.{with_source_nat, with_source_mapping, range_of, after_source_nat};

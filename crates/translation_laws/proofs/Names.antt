@@ -1,7 +1,9 @@
 -- Names of other crates and of the definitions, for the proofs.
 pub use Rattle.box_file.specs.Box.{PlantTree, owner}
-pub use Rattle.conntrack.specs.ConntrackEntry.{begun_with, belongs_in, connection_of, connection_ref, may_begin, have_disjoint_tuples, is_incoming}
-pub use Rattle.conntrack.specs.ConntrackEntry.{is_live, is_taken, max_connections, of_original, of_reply, same_id, touched, touched_at}
+pub use Rattle.conntrack.specs.ConntrackEntry.{belongs_in, connection_of, connection_ref, may_begin, is_incoming}
+pub use Rattle.conntrack.specs.TableEntries.{begun_with, have_disjoint_tuples}
+pub use Rattle.conntrack.specs.ConntrackEntry.{is_live, is_taken, max_connections, of_original, of_reply, same_id}
+pub use Rattle.conntrack.specs.TableEntries.{touched, touched_at}
 pub use Rattle.conntrack.specs.Histories.{Begins, ConnectionChange, Creation, NoChange, Touches, TrackedPacket, creation_in, begun_in, connection_in, is_alive}
 pub use Rattle.conntrack.specs.Histories.{is_creation, is_ended, live_list}
 pub use Rattle.conntrack.specs.Updates.{Arrival, Confirmation, Confirmed, DoesNotClash, Unconfirmed, after_end, after_packet, change_of_packet, entry_at}
@@ -28,7 +30,8 @@ pub use Rattle.ip_headers.specs.steps.Equal.{same_tuple-refl, same_tuple-true}
 pub use Rattle.list_laws.specs.Elements.{Contains-cases, Contains-tail, Contains-unmap}
 pub use Rattle.list_laws.specs.Lists.{Contains-head}
 pub use Rattle.list_laws.specs.Options.{none_not_some, some_of_map, some_unique}
-pub use Rattle.nat_mapping.specs.Mappings.{IsOneToOne, first_free_port, is_port_held, or_else, order_of, source_of}
+pub use Rattle.nat_mapping.specs.Mappings.{first_free_port, is_port_held, or_else, order_of, source_of}
+pub use Rattle.nat_mapping.specs.HeldMappings.{IsOneToOne}
 unfoldable pub use Rattle.nat_mapping.specs.Mappings.{inbound_of, port_of}
 pub use Rattle.pcap_io.specs.Pcap.{Recorded}
 pub use Rattle.rewrite.specs.Endpoints.{PortsMatchKind, between}

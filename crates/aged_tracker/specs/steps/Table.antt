@@ -10,7 +10,8 @@ use Rattle.aged_tracker.specs.declared.slot.NodeIndex.{NodeIndex}
 use Rattle.aged_tracker.specs.declared.slot.Slot.{Slot}
 use Rattle.box_file.specs.declared.idle_line.IdleKind.{IdleKind}
 use Rattle.box_file.specs.declared.limits.Limits.{Limits}
-use Rattle.conntrack.specs.ConntrackEntry.{belonging_by, connection_of, connection_ref, has_distinct_ids, have_disjoint_tuples, is_incoming, is_live, touched}
+use Rattle.conntrack.specs.ConntrackEntry.{belonging_by, connection_of, connection_ref, is_incoming, is_live}
+use Rattle.conntrack.specs.TableEntries.{has_distinct_ids, have_disjoint_tuples, touched}
 use Rattle.conntrack.specs.Phases.{idle_kind, limit_in, phase_by, phase_of}
 use Rattle.conntrack.specs.declared.belonging.Belonging.{Belonging}
 use Rattle.conntrack.specs.declared.belonging.Belonging.TheVariants.{Found, NotFound}

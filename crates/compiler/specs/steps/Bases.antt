@@ -2,7 +2,8 @@
 use Rattle.std.specs.Prelude.{◌≡◌, ℕ, ◌+◌, ◌<◌, not, Bool, List, length, map, filter, slice_get, slice_index, Some}
 use Rattle.std.specs.List.Sorted.{IsPermutation}
 use Rattle.nft_tree.specs.declared.chain.Hook.{Hook}
-use Rattle.nft_tree.specs.Tree.{TableTree, head_tree}
+use Rattle.nft_tree.specs.Tree.{TableTree}
+use Rattle.nft_tree.specs.TreeViews.{head_tree}
 use Rattle.rule_paths.specs.Paths.{MAX_COST}
 use Rattle.rule_paths.specs.Findings.{AreChainCosts}
 use Rattle.rule_meaning.specs.declared.event.ChainNo.{ChainNo}

@@ -6,7 +6,8 @@ use Rattle.pcap_io.specs.declared.format.Format.{Format}
 use Rattle.pcap_io.specs.declared.fault.CaptureFault.{CaptureFault}
 use Rattle.pcap_io.specs.Pcap.{Captured, Recorded, IsRecord, Ending, Whole, Torn, Malformed, Over, Ends, stream_of, decoded_records, HEADER_BYTES}
 use Rattle.pcap_io.specs.Pcap.{MOST_RECORDS, format_of}
-use Rattle.pcap_io.specs.CaptureStates.{CaptureState, IsOfRecords, READ_AHEAD}
+use Rattle.pcap_io.specs.CaptureStates.{CaptureState, IsOfRecords}
+use Rattle.pcap_io.specs.ReadAhead.{READ_AHEAD}
 use Rattle.pcap_io.specs.declared.fault.CaptureError.TheVariants.{Refused}
 use Rattle.pcap_io.specs.Counting.{AppendsPrefix, one_failure}
 use Rattle.pcap_io.specs.declared.counted.Counted.{Counted}

@@ -9,7 +9,7 @@ use Rattle.nat_mapping.specs.declared.keys.InboundKey.{InboundKey}
 use Rattle.nat_mapping.specs.declared.keys.PoolKey.{PoolKey}
 use Rattle.nat_mapping.specs.declared.keys.MappedPort.{MappedPort}
 use Rattle.nat_mapping.specs.declared.pools.Pools.{Pools}
-use Rattle.nat_mapping.specs.Mappings.{has_pool}
+use Rattle.nat_mapping.specs.HeldMappings.{has_pool}
 use Rattle.nat_mapping.specs.steps.KeyTests.{same_inbound, same_source}
 use Rattle.nat_mapping.specs.steps.Keys.{from_external, from_internal, inbound_at}
 use Rattle.nat_mapping.specs.steps.Pooled.{taken_in, IsPooled}

@@ -6,7 +6,8 @@ use Rattle.port_pool.specs.declared.order.Order.TheVariants.{Zero}
 use Rattle.port_pool.specs.declared.pool.Pool.{Pool}
 use Rattle.port_pool.specs.Taken.{is_taken, order_of as pool_order}
 use Rattle.nat_mapping.specs.declared.keys.PoolKey.{PoolKey}
-use Rattle.nat_mapping.specs.Mappings.{has_pool, order_of}
+use Rattle.nat_mapping.specs.Mappings.{order_of}
+use Rattle.nat_mapping.specs.HeldMappings.{has_pool}
 use Rattle.nat_mapping.specs.steps.KeyTests.{same_inbound, same_pool}
 use Rattle.nat_mapping.specs.steps.Keys.{inbound_at}
 

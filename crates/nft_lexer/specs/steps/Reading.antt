@@ -22,7 +22,8 @@ use Rattle.nft_lexer.specs.declared.fault.LexFault.{LexFault}
 use Rattle.nft_lexer.specs.declared.fault.LexFault.TheVariants as lexical
 use Rattle.nft_lexer.specs.declared.lexing.Fault.{Fault}
 use Rattle.nft_lexer.specs.declared.lexing.Fault.TheVariants as faults
-use Rattle.nft_lexer.specs.Terminal.{Terminal, number, address, LexedToken, terminal_of}
+use Rattle.nft_lexer.specs.Terminal.{Terminal, number, address, LexedToken}
+use Rattle.nft_lexer.specs.TokenViews.{terminal_of}
 use Rattle.nft_lexer.specs.Lexing.{Lexeme, blank, line_continuation, comment, line_end, name, digits, hexadecimal}
 use Rattle.nft_lexer.specs.Lexing.{dotted_quad, quoted, punctuation, is_blank, begins_word, continues_word}
 use Rattle.nft_lexer.specs.Lexing.{is_no_newline, is_string_byte, punctuator_text, IsLongestLexeme, HasTokens}

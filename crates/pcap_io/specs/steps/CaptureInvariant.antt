@@ -4,7 +4,8 @@ use Rattle.pcap_io.specs.declared.fault.CaptureError.{CaptureError}
 use Rattle.pcap_io.specs.declared.format.LinkType.{LinkType}
 use Rattle.pcap_io.specs.declared.format.Format.{Format}
 use Rattle.pcap_io.specs.Pcap.{Recorded, MOMENTS_END, MOST_RECORDS, MOST_CAPTURED}
-use Rattle.pcap_io.specs.CaptureStates.{CaptureState, READ_AHEAD}
+use Rattle.pcap_io.specs.CaptureStates.{CaptureState}
+use Rattle.pcap_io.specs.ReadAhead.{READ_AHEAD}
 use Rattle.pcap_io.specs.declared.capture.RecordHeader.{RecordHeader}
 use Rattle.pcap_io.specs.steps.Buffered.{IsBuffered}
 use Rattle.pcap_io.specs.steps.ReadAhead.{BufferState, last_of}

@@ -1,6 +1,7 @@
 -- The lines of notes about chains.
 use Rattle.std.specs.Prelude.{ℕ, [], ◌++◌, Option, Some, None}
-use Rattle.nft_tree.specs.Tree.{Text, chain_tree, table_tree}
+use Rattle.nft_tree.specs.Tree.{Text}
+use Rattle.nft_tree.specs.TreeViews.{chain_tree, table_tree}
 use Rattle.report.specs.declared.note_lines.ChainLine.{ChainLine}
 use Rattle.report.specs.Report.{chain_line}
 use Rattle.report.specs.steps.Paging.{piece_text}

@@ -2,7 +2,8 @@
 use Rattle.std.specs.Prelude.{◌≡◌, ◌⊎◌, All, Bool, true, false, List, map}
 use Rattle.std.specs.Borrow.{Bor}
 use Rattle.std.specs.List.{filter_map}
-use Rattle.nft_tree.specs.Tree.{Text, ChainTree, SetTree, MapTree, ItemTree, TableTree, chain_tree, set_tree, map_tree}
+use Rattle.nft_tree.specs.Tree.{Text, ChainTree, SetTree, MapTree, ItemTree, TableTree}
+use Rattle.nft_tree.specs.TreeViews.{chain_tree, set_tree, map_tree}
 use Rattle.nft_tree.specs.TableItems.{chain_in, set_in, map_in}
 use Rattle.rule_names.specs.Names.{DuplicateName, HasDuplicate, chain_names, set_and_map_names, set_or_map_name}
 use Rattle.rule_names.specs.declared.table.NamedItems.{NamedItems}

@@ -1,6 +1,6 @@
 use Rattle.std.proofs.Common.{sym, ap, map, ◌∙◌}
 use Rattle.std.specs.List.{list_any}
-use Rattle.nft_tree.specs.Tree.{table_tree}
+use Rattle.nft_tree.specs.TreeViews.{table_tree}
 use Rattle.rule_values.specs.TypedValues.{maps_in}
 use Rattle.rule_values.specs.Faults.{has_contradiction, map_contradicts}
 use Rattle.rule_values.proofs.Tests.{any_flat, told}

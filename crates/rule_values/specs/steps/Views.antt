@@ -1,7 +1,7 @@
 -- The code's sets and maps as trees.
 use Rattle.std.specs.Prelude.{List, [], ◌∷◌, map, Option, Some, None}
 use Rattle.nft_tree.specs.declared.compared_types.ComparedType.{ComparedType}
-use Rattle.nft_tree.specs.Tree.{pair_tree, set_type_tree}
+use Rattle.nft_tree.specs.TreeViews.{pair_tree, set_type_tree}
 use Rattle.nft_tree.specs.ComparedTypes.{key_compared_types, selector_compared_type}
 use Rattle.rule_values.specs.declared.keys.KeyTypes.{KeyTypes}
 use Rattle.rule_values.specs.declared.keys.KeyTypes.TheVariants as sources

@@ -6,7 +6,8 @@ use Rattle.conntrack.specs.declared.connection.Flags.{Flags}
 use Rattle.conntrack.specs.declared.connection.ConntrackEntry.{ConntrackEntry}
 use Rattle.conntrack.specs.declared.belonging.Belonging.{Belonging}
 use Rattle.conntrack.specs.declared.belonging.Belonging.TheVariants.{NotFound, Found}
-use Rattle.conntrack.specs.ConntrackEntry.{has_id, is_taken, touched_at}
+use Rattle.conntrack.specs.ConntrackEntry.{is_taken}
+use Rattle.conntrack.specs.TableEntries.{has_id, touched_at}
 use Rattle.conntrack.specs.Updates.{Confirmation, Unconfirmed, Confirmed, with_begun}
 use Rattle.history.specs.declared.outcome.Cause.{Cause}
 use Rattle.translation.specs.declared.ct_info.CtInfo.{CtInfo}

@@ -6,7 +6,8 @@ use Rattle.ip_headers.specs.Header.{total_len}
 use Rattle.conntrack.specs.declared.connection.ConnId.{ConnId}
 use Rattle.conntrack.specs.declared.connection.ConntrackEntry.{ConntrackEntry}
 use Rattle.connection_table.specs.Table.{Table}
-use Rattle.conntrack.specs.ConntrackEntry.{IsNoneLater, without_id}
+use Rattle.conntrack.specs.ConntrackEntry.{without_id}
+use Rattle.conntrack.specs.TableEntries.{IsNoneLater}
 use Rattle.conntrack.specs.Histories.{is_creation}
 use Rattle.conntrack.specs.Updates.{Confirmation, after_packet}
 use Rattle.rule_meaning.specs.declared.event.Event.{Event}

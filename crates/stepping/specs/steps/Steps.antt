@@ -1,7 +1,7 @@
 -- Steps in the code's terms, and what they cost.
 use Rattle.std.specs.Prelude.{◌≡◌, ℕ, ◌+◌, ◌≤◌, List, length, Result, Ok, Err}
 use Rattle.ip_headers.specs.declared.tuple.Mapping.{Mapping}
-use Rattle.nat_mapping.specs.Mappings.{HoldsSame}
+use Rattle.nat_mapping.specs.HeldMappings.{HoldsSame}
 use Rattle.filter_vm.specs.Machine.{EventsAndTicks}
 use Rattle.hook_runs.specs.Stages.{CostedTree, StageCosts}
 use Rattle.history.specs.declared.outcome.Cause.{Cause}

@@ -9,7 +9,8 @@ use Rattle.nft_lexer.specs.contracts.token.Punctuator.{the_type}
 use Rattle.nft_lexer.specs.declared.token.Punctuator.{Punctuator}
 use Rattle.nft_lexer.specs.declared.token.Punctuator.TheVariants.{Semicolon}
 use Rattle.nft_lexer.specs.declared.token.Token.{Token}
-use Rattle.nft_lexer.specs.Terminal.{Terminal, newline, punctuator, word, number, address, string, terminal_of, terminals, terminals_of, spelled}
+use Rattle.nft_lexer.specs.Terminal.{Terminal, newline, punctuator, word, number, address, string, terminals_of}
+use Rattle.nft_lexer.specs.TokenViews.{terminal_of, terminals, spelled}
 use Rattle.token_reader.specs.Repeats.{SpellsEnd, EndsCounted, Ends, SomeEnds}
 use Rattle.token_reader.specs.steps.Lookaheads.{punctuator_tag, begins_with}
 use Rattle.token_reader.specs.steps.Parser.{end_lookaheads}

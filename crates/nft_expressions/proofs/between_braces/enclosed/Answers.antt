@@ -1,6 +1,6 @@
 use Rattle.std.proofs.Common.{◌≡◌, ℕ, List, [], ◌∷◌, ◌∙◌, refl, sym, arith}
 use Rattle.std.proofs.lemmas.List.{append-nil, map-append}
-use Rattle.nft_lexer.specs.Terminal.{terminal_of, terminals}
+use Rattle.nft_lexer.specs.TokenViews.{terminal_of, terminals}
 use Rattle.nft_lexer.specs.declared.token.TokenKind.{TokenKind}
 use Rattle.nft_lexer.specs.declared.token.TokenKind.TheVariants as kinds
 use Rattle.token_reader.specs.Readers.{remaining}

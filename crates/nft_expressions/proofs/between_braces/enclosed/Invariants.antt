@@ -1,5 +1,5 @@
 use Rattle.std.proofs.Common.{◌≡◌, ◌+◌, ◌≤◌, length}
-use Rattle.nft_lexer.specs.Terminal.{terminals}
+use Rattle.nft_lexer.specs.TokenViews.{terminals}
 use Rattle.token_reader.specs.Readers.{remaining}
 use Rattle.nft_expressions.specs.steps.Braces.{behind_kept}
 use Rattle.nft_expressions.specs.steps.Reading.{enclosed_at}

@@ -1,6 +1,6 @@
 use Rattle.std.proofs.Common.{◌-◌, ◌∙◌, sym, take, drop, arith}
 use Rattle.std.proofs.lemmas.List.{take-map}
-use Rattle.nft_lexer.specs.Terminal.{terminal_of}
+use Rattle.nft_lexer.specs.TokenViews.{terminal_of}
 use Rattle.token_reader.specs.Readers.{remaining}
 use Rattle.nft_expressions.specs.steps.Braces.{one_more, brace_kept}
 use Rattle.nft_expressions.proofs.between_braces.unbroken.Goals as goal

@@ -1,6 +1,6 @@
 use Rattle.std.proofs.Common.{map, refl}
 use Rattle.std.proofs.lemmas.Result.{IfOk-weaker}
-use Rattle.nft_tree.specs.Tree.{element_tree}
+use Rattle.nft_tree.specs.TreeViews.{element_tree}
 use Rattle.token_reader.specs.Readers.{Anything}
 use Rattle.token_reader.specs.steps.Lawful.{taking_reads}
 use Rattle.nft_expressions.specs.Elements.{elements}

@@ -1,5 +1,5 @@
 use Rattle.std.proofs.Common.{None, refl, rules}
-use Rattle.nft_tree.specs.Tree.{map_ref_tree}
+use Rattle.nft_tree.specs.TreeViews.{map_ref_tree}
 use Rattle.token_reader.specs.Readers.{Anything}
 use Rattle.token_reader.specs.steps.Lawful.{reads_from}
 use Rattle.nft_expressions.specs.Elements.{pairs, map_ref}

@@ -1,5 +1,5 @@
 use Rattle.std.proofs.Common.{None, refl, rules}
-use Rattle.nft_tree.specs.Tree.{set_ref_tree}
+use Rattle.nft_tree.specs.TreeViews.{set_ref_tree}
 use Rattle.token_reader.specs.Readers.{Anything}
 use Rattle.token_reader.specs.steps.Lawful.{reads_from}
 use Rattle.nft_expressions.specs.Elements.{elements, set_ref}

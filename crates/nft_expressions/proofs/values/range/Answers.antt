@@ -1,6 +1,6 @@
 use Rattle.std.proofs.Common.{refl, rules}
 use Rattle.nft_lexer.specs.declared.token.Punctuator.TheVariants.{Minus, Slash}
-use Rattle.nft_tree.specs.Tree.{range_tree}
+use Rattle.nft_tree.specs.TreeViews.{range_tree}
 use Rattle.token_reader.specs.steps.Lawful.{no_punctuator, reads_from}
 use Rattle.nft_expressions.specs.Elements.{EndsRange, range}
 use Rattle.nft_expressions.specs.steps.Laws.{lawful_range}

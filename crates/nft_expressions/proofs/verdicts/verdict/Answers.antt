@@ -1,5 +1,5 @@
 use Rattle.std.proofs.Common.{refl}
-use Rattle.nft_tree.specs.Tree.{verdict_tree}
+use Rattle.nft_tree.specs.TreeViews.{verdict_tree}
 use Rattle.token_reader.specs.Readers.{Anything}
 use Rattle.token_reader.specs.steps.Lawful.{taking_reads}
 use Rattle.nft_expressions.specs.Elements.{verdict}

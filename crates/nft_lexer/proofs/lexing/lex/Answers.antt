@@ -1,7 +1,7 @@
 use Rattle.std.proofs.Common.{map, arith}
 use Rattle.std.proofs.lemmas.Bool.Decides.{nat_tests}
 use Rattle.nft_lexer.specs.declared.fault.LexFault.TheVariants.{TooLong}
-use Rattle.nft_lexer.specs.Terminal.{spelled}
+use Rattle.nft_lexer.specs.TokenViews.{spelled}
 use Rattle.nft_lexer.proofs.Tokenizations.{Answered, answers}
 use Rattle.nft_lexer.proofs.lexing.lex.Goals.{After-tokens}
 use Rattle.nft_lexer.proofs.lexing.lex.Goals as goal

@@ -1,7 +1,7 @@
 use Rattle.std.proofs.Common.{◌≡◌, ◌<◌, length, map, subst, sym, arith}
 use Rattle.std.proofs.lemmas.Bool.Decides.{nat_tests}
 use Rattle.std.proofs.lemmas.List.{length-append, nil_from_length}
-use Rattle.nft_lexer.specs.Terminal.{spelled}
+use Rattle.nft_lexer.specs.TokenViews.{spelled}
 use Rattle.nft_lexer.specs.Lexing.{FirstFault}
 use Rattle.nft_lexer.specs.steps.Reading.{ScansOne, listed}
 use Rattle.nft_lexer.proofs.Lexemes.{next_is}

@@ -1,5 +1,5 @@
 use Rattle.std.proofs.Common.{length, map}
-use Rattle.nft_lexer.specs.Terminal.{spelled}
+use Rattle.nft_lexer.specs.TokenViews.{spelled}
 use Rattle.nft_lexer.proofs.Tokenizations.{ScannedUpTo}
 use Rattle.nft_lexer.proofs.lexing.tokens.Given as goal
 

@@ -1,6 +1,7 @@
 use Rattle.std.proofs.Common.{◌≡◌, ◌⊎◌, ◌∙◌, ap, Some, None, inl, map, sym, subst}
-use Rattle.nft_lexer.specs.Terminal.{terminals_of, spelled}
-use Rattle.nft_tree.specs.Tree.{tables_of}
+use Rattle.nft_lexer.specs.Terminal.{terminals_of}
+use Rattle.nft_lexer.specs.TokenViews.{spelled}
+use Rattle.nft_tree.specs.TreeViews.{tables_of}
 use Rattle.token_reader.specs.steps.TokenLaws.{terminals_of-spelled}
 use Rattle.nft_parser.specs.declared.fault.ParseError.{ParseError}
 use Rattle.nft_parser.specs.declared.fault.ParseError.TheVariants.{Refused, Memory}

@@ -1,6 +1,6 @@
 use Rattle.std.proofs.Common.{◌≡◌, drop, map}
 use Rattle.std.specs.List.{list_all}
-use Rattle.nft_tree.specs.Tree.{flag_tree}
+use Rattle.nft_tree.specs.TreeViews.{flag_tree}
 use Rattle.nft_rules.specs.Matches.{is_flag}
 use Rattle.nft_rules.proofs.flags.are_flags.Given as goal
 

@@ -2,7 +2,7 @@ use Rattle.std.proofs.Common.{refl}
 use Rattle.std.proofs.lemmas.Result.{IfOk-weaker}
 use Rattle.token_reader.specs.Readers.{Anything}
 use Rattle.token_reader.specs.steps.Lawful.{reads_from}
-use Rattle.nft_tree.specs.Tree.{rule_tree}
+use Rattle.nft_tree.specs.TreeViews.{rule_tree}
 use Rattle.nft_rules.specs.Rules.{ended_rule}
 use Rattle.nft_rules.specs.steps.Laws.{lawful_rule}
 use Rattle.nft_rules.proofs.rules.rule.Goals as goal

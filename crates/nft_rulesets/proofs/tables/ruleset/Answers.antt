@@ -3,8 +3,10 @@ use Rattle.std.proofs.lemmas.Result.{IfOk-weaker}
 use Rattle.std.specs.Prelude.{IfSome, IsSomeAnd}
 use Rattle.std.specs.Option.{option_map}
 use Rattle.list_laws.specs.Options.{IfSome_at}
-use Rattle.nft_lexer.specs.Terminal.{Terminal, terminals}
-use Rattle.nft_tree.specs.Tree.{TableTree, tables_of}
+use Rattle.nft_lexer.specs.Terminal.{Terminal}
+use Rattle.nft_lexer.specs.TokenViews.{terminals}
+use Rattle.nft_tree.specs.Tree.{TableTree}
+use Rattle.nft_tree.specs.TreeViews.{tables_of}
 use Rattle.nft_rulesets.specs.Rulesets.{SpellsRuleset}
 use Rattle.nft_rulesets.specs.steps.Laws.{ruleset_at, ruleset_found, ruleset_only}
 use Rattle.nft_rulesets.proofs.tables.ruleset.Goals as goal

@@ -1,5 +1,5 @@
 use Rattle.std.proofs.Common.{◌≡◌, drop}
-use Rattle.nft_lexer.specs.Terminal.{terminals}
+use Rattle.nft_lexer.specs.TokenViews.{terminals}
 use Rattle.nft_rulesets.specs.UnsupportedWords.{has_unsupported}
 use Rattle.nft_rulesets.proofs.unsupported_words.has_unsupported.Given as goal
 

@@ -1,5 +1,5 @@
 use Rattle.std.proofs.Common.{sym, ◌∙◌}
-use Rattle.nft_tree.specs.Tree.{range_tree}
+use Rattle.nft_tree.specs.TreeViews.{range_tree}
 use Rattle.nft_values.specs.steps.Bounds.{bounds_span}
 use Rattle.nft_values.proofs.SpanLaws.{range_made}
 use Rattle.nft_values.proofs.ranges.numbers_of.Goals as goal

@@ -1,6 +1,6 @@
 use Rattle.std.proofs.Common.{sym, ◌∙◌}
 use Rattle.nft_tree.specs.Tree as tree
-use Rattle.nft_tree.specs.Tree.{value_tree}
+use Rattle.nft_tree.specs.TreeViews.{value_tree}
 use Rattle.nft_values.specs.steps.Bounds.{bounds_span}
 use Rattle.nft_values.proofs.SpanLaws.{range_made}
 use Rattle.nft_values.proofs.ranges.value_numbers.Goals as goal

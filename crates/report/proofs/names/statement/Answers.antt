@@ -1,6 +1,6 @@
 use Rattle.report.proofs.Imports.{arith, slice_get-map, ◌-◌}
 use Rattle.nft_tree.proofs.Chains.{mapped_get, numbered_is_get}
-use Rattle.nft_tree.specs.Tree as tree
+use Rattle.nft_tree.specs.TreeViews as tree
 use Rattle.report.proofs.names.statement.Goals as goal
 
 pub returns : goal.returns

@@ -1,5 +1,5 @@
 use Rattle.std.proofs.Common.{subst}
-use Rattle.nft_tree.specs.Tree.{tables_of}
+use Rattle.nft_tree.specs.TreeViews.{tables_of}
 use Rattle.rule_paths.specs.Paths.{Cycles}
 use Rattle.rule_paths.specs.Findings.{AreFindings}
 use Rattle.rule_check.specs.declared.fault.CheckFault.TheVariants as faults

@@ -1,6 +1,6 @@
 use Rattle.std.proofs.Common.{◌≡◌, ◌∙◌, ap, sym, false, arith}
 use Rattle.std.specs.List.{list_any}
-use Rattle.nft_tree.specs.Tree.{tables_of}
+use Rattle.nft_tree.specs.TreeViews.{tables_of}
 use Rattle.rule_names.specs.Names.{jumps_to_base_chain}
 use Rattle.rule_types.specs.Types.{table_mismatches}
 use Rattle.rule_check.specs.declared.fault.CheckFault.TheVariants as faults

@@ -1,4 +1,4 @@
-use Rattle.nft_tree.specs.Tree.{tables_of}
+use Rattle.nft_tree.specs.TreeViews.{tables_of}
 use Rattle.rule_check.proofs.Measures.{is_checked}
 use Rattle.rule_check.proofs.checked.check.Goals as goal
 

@@ -1,5 +1,5 @@
 use Rattle.std.proofs.Common.{◌≡◌, map, length}
-use Rattle.nft_tree.specs.Tree.{statement}
+use Rattle.nft_tree.specs.TreeViews.{statement}
 use Rattle.rule_check.specs.Chains.{has_statement_after_terminal}
 use Rattle.rule_check.proofs.terminal_statements.has_statement_after_terminal.Given as goal
 

@@ -1,7 +1,7 @@
 use Rattle.rule_names.proofs.Names.{All, HasDuplicate, HasUniqueNames, ap, map, subst, table_names, table_tree}
 use Rattle.std.proofs.lemmas.Result.{IfOk-weaker}
 use Rattle.list_laws.specs.Options.{IfSome_weaker}
-use Rattle.nft_tree.specs.Tree.{tables_of}
+use Rattle.nft_tree.specs.TreeViews.{tables_of}
 use Rattle.rule_names.specs.Names.{two_tables}
 use Rattle.rule_names.proofs.Tables.{is-not-true, none-duplicate}
 use Rattle.nft_tree.specs.declared.ruleset.Family.TheVariants as families

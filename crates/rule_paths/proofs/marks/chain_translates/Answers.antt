@@ -3,7 +3,8 @@ use Rattle.std.specs.List.{list_any}
 use Rattle.std.proofs.lemmas.Iterator.{YieldsList-from_slice}
 use Rattle.std.proofs.lemmas.Iterator.Search.{any_from_yields_List}
 use Rattle.list_laws.specs.Lists.{any_of_map}
-use Rattle.nft_tree.specs.Tree.{RuleTree, rule_tree}
+use Rattle.nft_tree.specs.Tree.{RuleTree}
+use Rattle.nft_tree.specs.TreeViews.{rule_tree}
 use Rattle.rule_names.proofs.Tests.{any-flat}
 use Rattle.rule_paths.specs.steps.Index.{translates}
 use Rattle.rule_paths.proofs.marks.chain_translates.Goals as goal

@@ -1,6 +1,7 @@
 use Rattle.std.proofs.Common.{◌≡◌, Some, length, map, vec_len, refl, arith, ap, ◌∙◌}
 use Rattle.std.proofs.lemmas.List.{take_all, length-map}
-use Rattle.nft_tree.specs.Tree.{ChainTree, chain_tree}
+use Rattle.nft_tree.specs.Tree.{ChainTree}
+use Rattle.nft_tree.specs.TreeViews.{chain_tree}
 use Rattle.nft_tree.specs.TableItems.{chains_of}
 use Rattle.rule_paths.specs.Paths.{chain_has}
 use Rattle.rule_paths.specs.steps.Index.{translates}

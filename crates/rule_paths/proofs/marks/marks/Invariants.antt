@@ -1,5 +1,5 @@
 use Rattle.std.proofs.Common.{◌≡◌, Some, map, take}
-use Rattle.nft_tree.specs.Tree.{chain_tree}
+use Rattle.nft_tree.specs.TreeViews.{chain_tree}
 use Rattle.rule_paths.specs.Paths.{chain_has}
 use Rattle.rule_paths.specs.steps.Index.{translates}
 use Rattle.rule_paths.proofs.marks.marks.Given as goal

@@ -2,7 +2,7 @@ use Rattle.std.proofs.Common.{rules, tests, ◌∙◌}
 use Rattle.std.proofs.lemmas.Iterator.{YieldsList-from_slice}
 use Rattle.std.proofs.lemmas.Iterator.Search.{any_from_yields_List}
 use Rattle.list_laws.specs.Lists.{any_of_map}
-use Rattle.nft_tree.specs.Tree.{statement}
+use Rattle.nft_tree.specs.TreeViews.{statement}
 use Rattle.rule_paths.specs.steps.Index.{translates}
 use Rattle.rule_paths.proofs.marks.rule_translates.Goals as goal
 

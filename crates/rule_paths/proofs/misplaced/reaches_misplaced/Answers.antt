@@ -1,6 +1,7 @@
 use Rattle.std.proofs.Common.{◌≡◌, true, false, ◌∙◌, arith, refl, sym, ap, below_more}
 use Rattle.std.proofs.lemmas.List.{length-map}
-use Rattle.nft_tree.specs.Tree.{ChainTree, chain_tree}
+use Rattle.nft_tree.specs.Tree.{ChainTree}
+use Rattle.nft_tree.specs.TreeViews.{chain_tree}
 use Rattle.rule_paths.specs.steps.Index.{may_not_translate}
 use Rattle.rule_paths.proofs.ReadLaws.{chain-is}
 use Rattle.rule_paths.proofs.misplaced.reaches_misplaced.Goals as goal

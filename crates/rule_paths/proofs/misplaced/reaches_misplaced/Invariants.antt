@@ -1,5 +1,6 @@
 use Rattle.std.proofs.Common.{◌≡◌, ℕ, ◌<◌, map, get_or, true, false}
-use Rattle.nft_tree.specs.Tree.{ChainTree, chain_tree}
+use Rattle.nft_tree.specs.Tree.{ChainTree}
+use Rattle.nft_tree.specs.TreeViews.{chain_tree}
 use Rattle.rule_paths.specs.steps.Index.{may_not_translate}
 use Rattle.rule_paths.proofs.misplaced.reaches_misplaced.Given as goal
 

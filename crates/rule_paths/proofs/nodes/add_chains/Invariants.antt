@@ -1,5 +1,5 @@
 use Rattle.std.proofs.Common.{◌≡◌, ◌++◌, map, take}
-use Rattle.nft_tree.specs.Tree.{chain_tree}
+use Rattle.nft_tree.specs.TreeViews.{chain_tree}
 use Rattle.chain_graph.specs.Nodes.{graph_of}
 use Rattle.rule_paths.specs.steps.Index.{chain_at}
 use Rattle.rule_paths.proofs.nodes.add_chains.Given as goal

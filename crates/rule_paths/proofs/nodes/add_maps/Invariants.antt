@@ -1,5 +1,5 @@
 use Rattle.std.proofs.Common.{◌≡◌, ◌++◌, map, take}
-use Rattle.nft_tree.specs.Tree.{map_tree}
+use Rattle.nft_tree.specs.TreeViews.{map_tree}
 use Rattle.chain_graph.specs.Nodes.{graph_of}
 use Rattle.rule_paths.specs.steps.Index.{map_at}
 use Rattle.rule_paths.proofs.nodes.add_maps.Given as goal

@@ -1,5 +1,5 @@
 use Rattle.std.proofs.Common.{◌≡◌, ◌++◌, map, take}
-use Rattle.nft_tree.specs.Tree.{statement}
+use Rattle.nft_tree.specs.TreeViews.{statement}
 use Rattle.chain_graph.specs.Nodes.{statements_of}
 use Rattle.rule_paths.specs.Paths.{statement_calls}
 use Rattle.rule_paths.specs.steps.Index.{index_of, numbered_call}

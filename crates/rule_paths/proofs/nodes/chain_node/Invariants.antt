@@ -1,6 +1,6 @@
 use Rattle.std.proofs.Common.{◌≡◌, map, take}
 use Rattle.std.specs.Prelude.{flat_map}
-use Rattle.nft_tree.specs.Tree.{rule_tree}
+use Rattle.nft_tree.specs.TreeViews.{rule_tree}
 use Rattle.chain_graph.specs.Nodes.{statements_of}
 use Rattle.rule_paths.specs.Paths.{statement_calls}
 use Rattle.rule_paths.specs.steps.Index.{index_of, numbered_call}

@@ -1,5 +1,5 @@
 use Rattle.std.proofs.Common.{◌≡◌, map, take}
-use Rattle.nft_tree.specs.Tree.{pair_tree}
+use Rattle.nft_tree.specs.TreeViews.{pair_tree}
 use Rattle.chain_graph.specs.Nodes.{call_of}
 use Rattle.rule_paths.specs.Paths.{pair_calls}
 use Rattle.rule_paths.specs.steps.Index.{index_of, numbered_call}

@@ -1,6 +1,6 @@
 use Rattle.std.proofs.Common.{◌≡◌, ℕ, Option, Some, None, length, arith, ap, sym, ◌∙◌, inl, inr}
 use Rattle.std.proofs.lemmas.List.{length-map}
-use Rattle.nft_tree.specs.Tree.{map_tree}
+use Rattle.nft_tree.specs.TreeViews.{map_tree}
 use Rattle.rule_paths.proofs.Callers.{look-map}
 use Rattle.rule_paths.proofs.numbers.map_number.Goals as goal
 

@@ -1,6 +1,6 @@
 use Rattle.std.proofs.Common.{◌∙◌, length, get_or, arith, ap, sym}
 use Rattle.std.proofs.lemmas.List.{length-map}
-use Rattle.nft_tree.specs.Tree.{chain_tree}
+use Rattle.nft_tree.specs.TreeViews.{chain_tree}
 use Rattle.rule_paths.proofs.ReadLaws.{costs-long, base-more, chain-is}
 use Rattle.rule_paths.proofs.table.base_cost.Goals as goal
 

@@ -1,7 +1,7 @@
 use Rattle.std.proofs.Common.{◌≡◌, ◌<◌, ◌∙◌, sym, length, arith, add-one, true}
 use Rattle.std.specs.List.{slice_get}
 use Rattle.std.proofs.lemmas.List.{length-map}
-use Rattle.nft_tree.specs.Tree.{set_type_tree}
+use Rattle.nft_tree.specs.TreeViews.{set_type_tree}
 use Rattle.nft_tree.specs.ComparedTypes.{key_compared_types, selector_compared_type}
 use Rattle.rule_types.specs.steps.Keys.{part_is}
 use Rattle.rule_types.proofs.Parts.{same_compared_types-part-same, same_compared_types-part-other, part_is-within}

@@ -1,5 +1,5 @@
 use Rattle.std.proofs.Common.{◌≡◌, ◌≤◌, map, drop, length}
-use Rattle.nft_tree.specs.Tree.{set_type_tree}
+use Rattle.nft_tree.specs.TreeViews.{set_type_tree}
 use Rattle.nft_tree.specs.ComparedTypes.{key_compared_types, selector_compared_type}
 use Rattle.rule_types.specs.Types.{same_compared_types}
 use Rattle.rule_types.proofs.keys.same_compared_types.Given as goal

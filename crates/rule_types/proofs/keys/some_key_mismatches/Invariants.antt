@@ -1,6 +1,6 @@
 use Rattle.std.proofs.Common.{◌≡◌, drop, map}
 use Rattle.std.specs.List.{list_any}
-use Rattle.nft_tree.specs.Tree.{element_tree}
+use Rattle.nft_tree.specs.TreeViews.{element_tree}
 use Rattle.rule_types.specs.steps.Keys.{shape_mismatches}
 use Rattle.rule_types.proofs.keys.some_key_mismatches.Given as goal
 

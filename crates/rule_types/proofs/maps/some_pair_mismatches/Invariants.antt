@@ -1,6 +1,6 @@
 use Rattle.std.proofs.Common.{◌≡◌, drop, map}
 use Rattle.std.specs.List.{list_any}
-use Rattle.nft_tree.specs.Tree.{pair_tree}
+use Rattle.nft_tree.specs.TreeViews.{pair_tree}
 use Rattle.rule_types.specs.Types.{pair_mismatches}
 use Rattle.rule_types.proofs.maps.some_pair_mismatches.Given as goal
 

@@ -1,6 +1,6 @@
 use Rattle.std.proofs.Common.{◌≡◌, drop, map}
 use Rattle.std.specs.List.{list_any}
-use Rattle.nft_tree.specs.Tree.{flag_tree}
+use Rattle.nft_tree.specs.TreeViews.{flag_tree}
 use Rattle.rule_values.specs.Faults.{flag_out_of_range}
 use Rattle.rule_values.proofs.bounds.flags_out_of_range.Given as goal
 

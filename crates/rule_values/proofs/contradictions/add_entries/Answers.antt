@@ -1,7 +1,7 @@
 use Rattle.std.proofs.Common.{[], ◌++◌, sym, ap, ◌∙◌}
 use Rattle.std.specs.List.{cons_option}
 use Rattle.std.proofs.lemmas.List.{append-nil}
-use Rattle.nft_tree.specs.Tree.{pair_tree}
+use Rattle.nft_tree.specs.TreeViews.{pair_tree}
 use Rattle.rule_values.specs.Faults.{map_entry_of}
 use Rattle.rule_values.specs.steps.Views.{elements_tree}
 use Rattle.rule_values.proofs.Entries.{gathered, gathered-all}

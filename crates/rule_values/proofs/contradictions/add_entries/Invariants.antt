@@ -1,6 +1,6 @@
 use Rattle.std.proofs.Common.{map, take}
 use Rattle.std.specs.List.{filter_map}
-use Rattle.nft_tree.specs.Tree.{pair_tree}
+use Rattle.nft_tree.specs.TreeViews.{pair_tree}
 use Rattle.rule_values.specs.Faults.{map_entry_of}
 use Rattle.rule_values.specs.steps.Views.{elements_tree}
 use Rattle.rule_values.specs.steps.MapEntries.{RepresentEach}

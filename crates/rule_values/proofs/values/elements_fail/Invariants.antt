@@ -1,4 +1,4 @@
-use Rattle.nft_tree.specs.Tree.{element_tree}
+use Rattle.nft_tree.specs.TreeViews.{element_tree}
 use Rattle.rule_values.specs.TypedValues.{key_ranges}
 use Rattle.rule_values.specs.steps.Checks.{fails}
 use Rattle.rule_values.specs.steps.Views.{key_types_of}

@@ -1,6 +1,6 @@
 use Rattle.std.proofs.Common.{◌≡◌, map}
 use Rattle.std.specs.List.{list_any}
-use Rattle.nft_tree.specs.Tree.{value_tree}
+use Rattle.nft_tree.specs.TreeViews.{value_tree}
 use Rattle.rule_values.specs.TypedValues.{joined_ranges}
 use Rattle.rule_values.specs.steps.Checks.{fails}
 use Rattle.rule_values.specs.steps.Views.{key_types_of}

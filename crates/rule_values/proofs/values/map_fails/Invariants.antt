@@ -1,4 +1,4 @@
-use Rattle.nft_tree.specs.Tree.{pair_tree}
+use Rattle.nft_tree.specs.TreeViews.{pair_tree}
 use Rattle.rule_values.specs.steps.Checks.{fails, pair_ranges}
 use Rattle.rule_values.specs.steps.Views.{elements_tree}
 use Rattle.rule_values.proofs.Tests.{NoneBefore}

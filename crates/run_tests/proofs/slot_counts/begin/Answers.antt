@@ -1,5 +1,5 @@
 use Rattle.std.proofs.Common.{None}
-use Rattle.conntrack.specs.ConntrackEntry.{IsNoneLater}
+use Rattle.conntrack.specs.TableEntries.{IsNoneLater}
 use Rattle.conntrack.specs.Updates.{Confirmed}
 use Rattle.conntrack.specs.declared.belonging.Belonging.TheVariants.{NotFound}
 use Rattle.run_tests.proofs.slot_counts.begin.Goals as goal

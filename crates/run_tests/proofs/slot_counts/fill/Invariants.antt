@@ -1,4 +1,4 @@
-use Rattle.conntrack.specs.ConntrackEntry.{IsNoneLater}
+use Rattle.conntrack.specs.TableEntries.{IsNoneLater}
 use Rattle.run_tests.proofs.slot_counts.fill.Given as goal
 
 abbrev pub invariant-loop-port : goal.invariant-loop-port

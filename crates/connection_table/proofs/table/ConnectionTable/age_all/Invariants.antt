@@ -1,7 +1,7 @@
 use Rattle.std.proofs.Common.{◌≡◌, ◌&&◌, length}
 use Rattle.std.specs.Prelude.{IsTrue, nat_le}
-use Rattle.conntrack.specs.ConntrackEntry.{IsNoneLater, live_at}
-use Rattle.nat_mapping.specs.Mappings.{HoldsSame}
+use Rattle.conntrack.specs.TableEntries.{IsNoneLater, live_at}
+use Rattle.nat_mapping.specs.HeldMappings.{HoldsSame}
 use Rattle.translation.specs.LiveMappings.{mappings_in}
 use Rattle.connection_table.proofs.table.ConnectionTable.age_all.Given as goal
 

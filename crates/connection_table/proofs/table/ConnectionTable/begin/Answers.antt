@@ -7,7 +7,7 @@ use Rattle.conntrack.specs.declared.connection.ConnId.{ConnId}
 use Rattle.conntrack.specs.declared.tracker.BeginError.{BeginError}
 use Rattle.conntrack.specs.declared.tracker.BeginError.TheVariants.{Full}
 use Rattle.conntrack.specs.declared.connection.ConntrackEntry.{ConntrackEntry}
-use Rattle.nat_mapping.specs.Mappings.{HoldsSame, holders_of}
+use Rattle.nat_mapping.specs.HeldMappings.{HoldsSame, holders_of}
 use Rattle.translation.specs.declared.ct_info.NewConnection.{NewConnection}
 use Rattle.translation.specs.Fitting.{IsFitting}
 use Rattle.translation.specs.LiveMappings.{listed, mappings_in}

@@ -1,6 +1,6 @@
 use Rattle.std.proofs.Common.{◌-◌, map, arith}
 use Rattle.std.proofs.lemmas.Option.{slice_get-map}
-use Rattle.nft_tree.specs.Tree.{rule_tree}
+use Rattle.nft_tree.specs.TreeViews.{rule_tree}
 use Rattle.nft_tree.proofs.Chains.{numbered_is_get, mapped_get}
 use Rattle.nft_tree.proofs.chain.Chain.rule.Goals as goal
 

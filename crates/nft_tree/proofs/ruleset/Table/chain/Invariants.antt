@@ -1,5 +1,5 @@
 use Rattle.std.proofs.Common.{◌≡◌, slice_get, drop}
-use Rattle.nft_tree.specs.Tree.{table_tree}
+use Rattle.nft_tree.specs.TreeViews.{table_tree}
 use Rattle.nft_tree.specs.TableItems.{chains_of}
 use Rattle.nft_tree.proofs.Chains.{chains_among}
 use Rattle.nft_tree.proofs.ruleset.Table.chain.Given as goal

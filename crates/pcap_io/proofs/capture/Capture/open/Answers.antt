@@ -1,7 +1,7 @@
 use Rattle.std.proofs.Common.{◌≡◌, ◌≤◌, ◌⊎◌, ◌∙◌, ◌++◌, ap, inl, inr, sym, arith, drop, length, length-drop, take, true}
 use Rattle.std.proofs.lemmas.Result.{err_from_is_err_and}
 use Rattle.pcap_io.specs.Pcap.{format_of}
-use Rattle.pcap_io.specs.CaptureStates.{READ_AHEAD}
+use Rattle.pcap_io.specs.ReadAhead.{READ_AHEAD}
 use Rattle.pcap_io.specs.steps.ReadAhead.{BufferState}
 use Rattle.pcap_io.proofs.Headers.{opened, refused}
 use Rattle.pcap_io.proofs.capture.Capture.open.Goals as goal

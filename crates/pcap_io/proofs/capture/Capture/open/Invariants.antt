@@ -1,7 +1,7 @@
 -- what was read is held
 use Rattle.std.proofs.Common.{◌≡◌, ◌≤◌, ◌-◌, true, cond, length}
 use Rattle.std.specs.Io.KnownBytes.{Consumes, IsAtEnd}
-use Rattle.pcap_io.specs.CaptureStates.{READ_AHEAD}
+use Rattle.pcap_io.specs.ReadAhead.{READ_AHEAD}
 use Rattle.pcap_io.proofs.capture.Capture.open.Given as goal
 
 abbrev pub invariant-loop-buffer : goal.invariant-loop-buffer

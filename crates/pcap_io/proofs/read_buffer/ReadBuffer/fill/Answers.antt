@@ -2,7 +2,7 @@ use Rattle.std.proofs.Common.{◌≡◌, ◌<◌, ◌≤◌, ℕ, ◌-◌, ◌�
 use Rattle.std.specs.Prelude.{slice_range}
 use Rattle.std.proofs.lemmas.List.{with_items_is, places}
 use borrow.Rule.Slice.PartMut.{post_of}
-use Rattle.pcap_io.specs.CaptureStates.{READ_AHEAD}
+use Rattle.pcap_io.specs.ReadAhead.{READ_AHEAD}
 use Rattle.pcap_io.specs.steps.ReadAhead.{BufferState}
 use Rattle.pcap_io.proofs.Buffers.{held_more, at_front}
 use Rattle.pcap_io.proofs.read_buffer.ReadBuffer.fill.Goals as goal

@@ -1,5 +1,5 @@
 use Rattle.std.proofs.Common.{rules, ◌≡◌, sym, ap, subst}
-use Rattle.nft_tree.specs.Tree.{tables_of}
+use Rattle.nft_tree.specs.TreeViews.{tables_of}
 use Rattle.rule_paths.specs.Findings.{numbers_at}
 use Rattle.rule_check.specs.Checked.{AreRulesetCosts}
 use Rattle.rule_check.proofs.Measures.{base, no_costs, same_costs}

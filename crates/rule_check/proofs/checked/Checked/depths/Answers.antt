@@ -1,5 +1,5 @@
 use Rattle.std.proofs.Common.{rules, ◌≡◌}
-use Rattle.nft_tree.specs.Tree.{tables_of}
+use Rattle.nft_tree.specs.TreeViews.{tables_of}
 use Rattle.rule_paths.specs.Findings.{numbers_at}
 use Rattle.rule_check.proofs.Measures.{no_depths, shallow}
 use Rattle.rule_check.proofs.checked.Checked.depths.Goals as goal

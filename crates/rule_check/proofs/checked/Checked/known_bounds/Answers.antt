@@ -1,4 +1,4 @@
-use Rattle.nft_tree.specs.Tree.{tables_of}
+use Rattle.nft_tree.specs.TreeViews.{tables_of}
 use Rattle.rule_check.specs.Checked.{rows}
 use Rattle.rule_check.proofs.Measures.{shallow, total}
 use Rattle.rule_check.proofs.checked.Checked.known_bounds.Goals as goal

@@ -1,5 +1,5 @@
 use Rattle.rule_names.proofs.Names.{ap, map}
-use Rattle.nft_tree.specs.Tree.{chain_tree, map_tree, set_tree}
+use Rattle.nft_tree.specs.TreeViews.{chain_tree, map_tree, set_tree}
 use Rattle.rule_names.proofs.Duplicates.{repeats-none}
 use Rattle.rule_names.proofs.table.NamedItems.new.Goals as goal
 

@@ -1,5 +1,5 @@
 use Rattle.rule_names.proofs.Names.{ap, option_map, ◌∙◌}
-use Rattle.nft_tree.specs.Tree.{chain_tree}
+use Rattle.nft_tree.specs.TreeViews.{chain_tree}
 use Rattle.rule_names.specs.Names.{chain_named}
 use Rattle.rule_names.proofs.IndexLookup.{looked}
 use Rattle.rule_names.proofs.table.TableNames.chain.Goals as goal

@@ -1,5 +1,5 @@
 use Rattle.rule_names.proofs.Names.{ap, map, ◌∙◌}
-use Rattle.nft_tree.specs.Tree.{chain_tree}
+use Rattle.nft_tree.specs.TreeViews.{chain_tree}
 use Rattle.nft_tree.specs.TableItems.{chains_of}
 use Rattle.rule_names.proofs.table.TableNames.chains.Goals as goal
 

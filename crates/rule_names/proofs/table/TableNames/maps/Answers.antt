@@ -1,5 +1,5 @@
 use Rattle.rule_names.proofs.Names.{ap, map, ◌∙◌}
-use Rattle.nft_tree.specs.Tree.{map_tree}
+use Rattle.nft_tree.specs.TreeViews.{map_tree}
 use Rattle.nft_tree.specs.TableItems.{maps_of}
 use Rattle.rule_names.proofs.table.TableNames.maps.Goals as goal
 

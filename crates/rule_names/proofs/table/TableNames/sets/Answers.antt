@@ -1,5 +1,5 @@
 use Rattle.rule_names.proofs.Names.{ap, map, ◌∙◌}
-use Rattle.nft_tree.specs.Tree.{set_tree}
+use Rattle.nft_tree.specs.TreeViews.{set_tree}
 use Rattle.nft_tree.specs.TableItems.{sets_of}
 use Rattle.rule_names.proofs.table.TableNames.sets.Goals as goal
 

@@ -1,6 +1,6 @@
 use Rattle.rule_names.proofs.Names.{any_of_map, ap, list_any, map, passes, sym, ◌∙◌}
 use Rattle.std.proofs.lemmas.List.{take_all}
-use Rattle.nft_tree.specs.Tree.{pair_tree}
+use Rattle.nft_tree.specs.TreeViews.{pair_tree}
 use Rattle.nft_tree.specs.declared.set.Pair.{Pair}
 use Rattle.rule_names.specs.Names.{data_target, one_or_none}
 use Rattle.rule_names.proofs.Tests.{any-here, any-more, any-picked}

@@ -1,5 +1,5 @@
 use Rattle.rule_names.proofs.Names.{false, list_any, passes, take, ◌≡◌}
-use Rattle.nft_tree.specs.Tree.{pair_tree}
+use Rattle.nft_tree.specs.TreeViews.{pair_tree}
 use Rattle.rule_names.specs.Names.{data_target, one_or_none}
 use Rattle.rule_names.proofs.targets.TargetTest.of_pairs.Given as goal
 

@@ -1,7 +1,7 @@
 use Rattle.std.proofs.Common.{ap, map}
 use Rattle.std.specs.Prelude.{flat_map}
 use Rattle.std.specs.List.{list_any}
-use Rattle.nft_tree.specs.Tree.{statement}
+use Rattle.nft_tree.specs.TreeViews.{statement}
 use Rattle.rule_values.specs.TypedValues.{statement_maps}
 use Rattle.rule_values.specs.Faults.{map_contradicts}
 use Rattle.rule_values.proofs.Tests.{told}
