@@ -30,6 +30,7 @@ class Wanted(enum.Enum):
     NONE = 0
     ONE = 1
     EACH = 2  # that of Rattle's own compiler too, where that compiled it
+    WHERE_BUILT = 3  # it does without
 
 
 @dataclass(frozen=True)
@@ -68,9 +69,11 @@ TESTS = (
     Test("progress", "test-progress", Place.PROGRAMS, "the progress that a terminal shows"),
     Test("terminal", "test-terminal", Place.PROGRAMS, "colours and escapes on a terminal"),
     Test("install", "install/test-install", Place.PROGRAMS, "installing, README's ten minutes, packing, removing"),
-    Test("python", "test-python", Place.PROGRAMS, "types, style and reach of the Python; unit tests, tools"),
+    Test("python", "test-python", Place.PROGRAMS, "types, style and reach of the Python; unit tests, tools",
+         Wanted.WHERE_BUILT),
     Test("unit", "unit/run-unit", Place.WITHIN, "functions of the tools and tests (-k NAME: one)", Wanted.NONE),
-    Test("tools", "tools/test-tools", Place.WITHIN, "what each command prints (--only TEXT: these)"),
+    Test("tools", "tools/test-tools", Place.WITHIN, "what each command prints (--only TEXT: these)",
+         Wanted.WHERE_BUILT),
     Test("docs", "test-docs", Place.PAGES, "links, paths and lengths of documents; written pages",
          Wanted.NONE),
     Test("surface", "test-surface", Place.PAGES, "what scripts read of sources", Wanted.NONE),
@@ -98,7 +101,7 @@ def programs(program: pathlib.Path) -> list[pathlib.Path]:
 def call_of(test: Test, program: pathlib.Path, more: Sequence[str] = ()) -> list[str]:
     """The words of a call; `more` stand at its end. An option is left out where its program isn't built."""
     words = [str(TOP / "tests" / test.file)]
-    if test.wanted is not Wanted.NONE:
+    if test.wanted is not Wanted.NONE and (program.exists() or test.wanted is not Wanted.WHERE_BUILT):
         words += map(str, programs(program) if test.wanted is Wanted.EACH else [program])
     words += test.words
     for option in test.options:
@@ -109,7 +112,7 @@ def call_of(test: Test, program: pathlib.Path, more: Sequence[str] = ()) -> list
 
 def lacks_program(test: Test, program: pathlib.Path) -> bool:
     """Whether a test wants the program where there is none."""
-    return test.wanted is not Wanted.NONE and not program.exists()
+    return test.wanted in (Wanted.ONE, Wanted.EACH) and not program.exists()
 
 
 def not_built(test: Test) -> list[str]:

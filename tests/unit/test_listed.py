@@ -85,6 +85,8 @@ class Runs(FilesCase):
         nowhere = self.folder / "nowhere"
         self.assertTrue(lacks_program(self.one(0), nowhere))
         self.assertFalse(lacks_program(self.one(0, wanted=Wanted.NONE), nowhere))
+        self.assertFalse(lacks_program(self.one(0, wanted=Wanted.WHERE_BUILT), nowhere))
+        self.assertEqual([], call_of(self.one(0, wanted=Wanted.WHERE_BUILT), nowhere)[1:])
 
     def test_all(self) -> None:
         """All run, also behind one that failed; without a program that is listed it fails."""
