@@ -3,7 +3,7 @@ import os
 from array import array
 from collections import Counter, namedtuple
 
-from linux.telling import telling, told_records
+from linux.telling import Seen, telling, told_records
 from toolbox import program
 from toolbox.captures import IPV4, LINK_LENGTHS, LINUX_SLL2, PROTOCOL_AT, SENT_BY_US, header_of, interface_of, records
 from toolbox.commands import Refused, read_text
@@ -126,7 +126,7 @@ class Model:
         told = self.told(path, rules, box, given, folder)
         left = records(leaving, MOST_BYTES)
         rows = zip(records(given, MOST_BYTES), records(capture, MOST_BYTES), records_of(report), told or plain(report))
-        for record, as_captured, (_, events, outcome), (state, decisions) in rows:
+        for record, as_captured, (_, events, outcome), seen in rows:
             frame = next(left)[-1] if outcome == b"passed" else None
             for event in events:
                 if event.startswith(b"log "):
@@ -136,7 +136,7 @@ class Model:
                 record, outcome = as_captured, UNSENT
             elif place != AS_CAPTURED and record[0] <= self.most:
                 self.captured[record[0]] = self.words(as_captured[-1], self.packet_at(as_captured[-1]))
-            self.take(record, text_of(outcome), state, decisions, frame)
+            self.take(record, text_of(outcome), seen.state, seen.decisions, frame)
 
     @staticmethod
     def place_of(event):
@@ -246,7 +246,7 @@ class Model:
 def plain(report):
     """Of each record no state, and its decisions as the report has them."""
     for _, events, _ in records_of(report):
-        yield None, [one for one in map(event_of, events) if isinstance(one, Decision)]
+        yield Seen(None, [one for one in map(event_of, events) if isinstance(one, Decision)])
 
 
 def stage_of(outcome, steps):
