@@ -5,12 +5,12 @@ that logs the state as soon as connections are looked for; it decides as before.
 """
 from __future__ import annotations
 
-import re
 from dataclasses import dataclass
 from typing import Iterable, Iterator, Union
 
+from toolbox.lexer import Source, Token, tokens_in
 from toolbox.reports import Decision, Log, event_of, records_of
-from toolbox.rulesets import TOKEN, TRANSLATIONS, VERDICTS, Token, statement_words
+from toolbox.rulesets import TRANSLATIONS, VERDICTS, statement_words
 
 HELD = "beside-linux: held"
 PROBE = "beside_linux_probe"
@@ -42,15 +42,15 @@ class RuleEnds:
 
     def __init__(self) -> None:
         self.depth, self.in_chain = 0, False
-        self.piece: list[re.Match[str]] = []
+        self.piece: list[Token] = []
 
-    def take(self, match: re.Match[str]) -> int | None:
-        word, place = match.group(), None
-        is_newline = match.lastgroup == "newline"
+    def take(self, token: Token) -> int | None:
+        word, place = token.text, None
+        is_newline = token.kind == "newline"
         if self.in_chain and self.depth == 2 and (is_newline or word in (";", "}")):
             place, self.piece = end_of_rule(self.piece), []
         elif self.in_chain and self.depth >= 2 and not is_newline:
-            self.piece.append(match)
+            self.piece.append(token)
         self.go(word)
         return place
 
@@ -69,22 +69,21 @@ class RuleEnds:
 def rule_ends(text: str) -> Iterator[int]:
     """Where in a ruleset's text the rules that decide nothing end, before a comment of theirs."""
     ends = RuleEnds()
-    for match in TOKEN.finditer(text):
-        place = None if match.lastgroup == "blank" else ends.take(match)
+    for token in tokens_in(Source("", text)):
+        place = ends.take(token)
         if place is not None:
             yield place
 
 
-def end_of_rule(piece: list[re.Match[str]]) -> int | None:
+def end_of_rule(tokens: list[Token]) -> int | None:
     """The place behind a rule's last statement, or None where it decides, or is no rule."""
-    tokens = [Token(match.lastgroup or "", match.group(), 0, True) for match in piece]
-    if not piece or tokens[0].text in ("type", "policy", "comment"):
+    if not tokens or tokens[0].text in ("type", "policy", "comment"):
         return None
     if any(word in VERDICTS + TRANSLATIONS for word in statement_words(tokens)):
         return None
-    if len(piece) > 2 and tokens[-2].text == "comment" and tokens[-1].kind == "string":
-        piece = piece[:-2]
-    return piece[-1].end()
+    if len(tokens) > 2 and tokens[-2].text == "comment" and tokens[-1].kind == "string":
+        tokens = tokens[:-2]
+    return tokens[-1].end
 
 
 def telling(text: str) -> str:
