@@ -41,9 +41,9 @@ class Run:
 def joined(outcomes, told, leaving):
     """The records, each with the packet that left."""
     left = records(leaving)
-    for outcome, (state, decisions) in zip(outcomes, told):
+    for outcome, seen in zip(outcomes, told):
         leaves = None
         if outcome == "passed":
             data = next(left)[-1]
             leaves = interface_of(data, LINUX_SLL2), data[LINK_LENGTHS[LINUX_SLL2]:]
-        yield Said(outcome, state, decisions, leaves)
+        yield Said(outcome, seen.state, seen.decisions, leaves)
