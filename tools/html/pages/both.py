@@ -146,10 +146,11 @@ def half_html(text: Text, line: Line | None, side: str) -> str:
         return f'<div class="half {side} empty"></div>'
     title = f' title="{shown(MEANS[line.mark])}"' if line.mark in MEANS else ""
     notes = "".join(f'<span class="note">{note}</span>' for note in notes_of(text, line, side))
+    code = coloured(line.text.strip())
     return (f'<div class="half {side} {line.mark.value}" id="{text.letter}{line.number}">'
             f'<span class="no">{line.number}</span> <span class="count">{text.counts_html(line.number)}</span> '
             f'<span class="sign"{title}>{SIGNS[line.mark]}</span>'
-            f'<span class="text i{indent_of(line.text)}"><code>{coloured(line.text.strip())}</code>{notes}</span></div>')
+            f'<span class="text i{indent_of(line.text)}"><code>{code}</code>{notes}</span></div>')
 
 
 def notes_of(text: Text, line: Line, side: str) -> Iterator[str]:

@@ -84,10 +84,9 @@ function byWords(text) {
 	}
 	const records = recordsThat(tests);
 	choose(records, text);
-	const lone = text.trim().replace(/^#/, "");
-	if (!NUMBER.test(lone)) return;
-	if (records.length) show(records[0]);
-	offerPort(numberOf(lone));
+	const lone = text.trim();
+	if (/^#?[0-9,]+$/.test(lone) && records.length) show(records[0]);
+	if (NUMBER.test(lone)) offerPort(numberOf(lone));
 }
 
 // A number alone is a record's; the port of that number is offered beside it
