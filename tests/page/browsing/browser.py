@@ -183,6 +183,8 @@ class Browser:
         pathlib.Path(path).write_bytes(base64.b64decode(picture["data"]))
 
     def pdf(self, path: str) -> None:
+        """The page as it is printed on A4."""
+        self.call("Emulation.setEmulatedMedia", media="print")
         printed = self.call("Page.printToPDF", printBackground=True, paperWidth=8.27, paperHeight=11.69)
         pathlib.Path(path).write_bytes(base64.b64decode(printed["data"]))
 

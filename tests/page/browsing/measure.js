@@ -64,8 +64,17 @@
 		return !top || top.contains(element) || element.contains(top) ? null : named(top);
 	}
 
+	function placeholders() {
+		const cut = input => {
+			const style = getComputedStyle(input), width = input.clientWidth - parseFloat(style.paddingLeft) - parseFloat(style.paddingRight);
+			canvas.font = style.font;
+			return input.checkVisibility() && canvas.measureText(input.placeholder).width > width;
+		};
+		return [...document.querySelectorAll("input[placeholder]")].filter(cut).map(input => `${input.placeholder} is cut by ${named(input)}`);
+	}
+
 	function numbers() {
-		const lines = [];
+		const lines = placeholders();
 		for (const { text, element, rects } of texts()) {
 			if (!/[0-9]/.test(text)) continue;
 			for (const rect of rects) {

@@ -17,6 +17,7 @@ if TYPE_CHECKING:
     from toolbox.rulesets import Chain, Rule
 
 MOST_ROWS, CONTEXT, FEWEST_FOLDED = 6000, 3, 8
+ROOMS = (6, 8, 10, 12, 16, 20, 30)  # characters beside a line, as classes of the style sheet
 SIGNS = {Mark.SAME: "", Mark.REMOVED: "−", Mark.ADDED: "+", Mark.MOVED: "↕", Mark.REWORDED: "≈"}
 MEANS = {Mark.REMOVED: "removed", Mark.ADDED: "added", Mark.MOVED: "moved",
          Mark.REWORDED: "written otherwise: the rules are the same"}
@@ -71,6 +72,11 @@ class Text:
                 known.add(text)
                 yield Noted(text, f"{self.letter}{self.line_of(change)}")
 
+    def hits_at(self, line: int) -> list[int | None]:
+        """What the policies and rules on a line were met by, in their order."""
+        return [*(self.hits.held[chain.name, 0] for _, chain in self.policies.get(line, [])),
+                *(self.hits.of(rule) for _, rule in self.rules.get(line, []))]
+
     def counts_html(self, line: int) -> str:
         """How many packets met the rules that begin on a line, or the policy on it."""
         parts = [self.policy_html(index, chain) for index, chain in self.policies.get(line, [])]
@@ -113,11 +119,17 @@ class Both:
         bound = (f'<p class="bound">The first {number(MOST_ROWS)} of {plural(len(pairs), "line")} are shown.</p>'
                  if len(pairs) > MOST_ROWS else "")
         differ = sum(not pair.is_same for pair in pairs)
-        button = ('<button type="button" class="link" id="next-change">next change</button>. ' if differ else "")
-        return (f'<p class="lead">{button}The number beside a rule tells for how many packets it held, on the left '
-                f"in the run of the old ruleset, on the right in that of the new one. {legend}.</p>"
-                f'<div class="both"><div class="pair head">{head}</div>'
+        button = (' <button type="button" class="link" id="next-change">next change</button>' if differ else "")
+        return (f'<p class="lead">The number beside a rule tells for how many packets it held, on the left '
+                f"in the run of the old ruleset, on the right in that of the new one; coloured where they differ. "
+                f"{legend}.{button}</p>"
+                f'<div class="both d{self.digits()}"><div class="pair head">{head}</div>'
                 f'{"".join(self.rows(pairs[:MOST_ROWS]))}</div>{bound}')
+
+    def digits(self) -> int:
+        """For how many characters there has to be room beside each line."""
+        most = max((*self.old.hits.held.values(), *self.new.hits.held.values()), default=0)
+        return next(room for room in ROOMS if len(number(most)) <= room)
 
     def rows(self, pairs: Sequence[Pair]) -> Iterator[str]:
         """The lines; long passages without a change are folded."""
@@ -137,6 +149,8 @@ class Both:
 
     def pair_html(self, pair: Pair) -> str:
         kind = "same" if pair.is_same else "differs"
+        if pair.old and pair.new and self.old.hits_at(pair.old.number) != self.new.hits_at(pair.new.number):
+            kind += " otherwise"
         return (f'<div class="pair {kind}">{half_html(self.old, pair.old, "old")}'
                 f'{half_html(self.new, pair.new, "new")}</div>\n')
 

@@ -114,7 +114,7 @@ class Page:
             f'<p class="bound">The first {number(kept)} of {plural(self.model.count, "record")} can be looked at one '
             "by one; numbers are of all.</p>")
         return (f'<h2>Records</h2>{bound}<form id="filter" role="search"><input id="search" type="search" '
-                'placeholder="192.0.2.0/24, port 25, wan, drop, 17" aria-label="Search records" autocomplete="off" '
+                'placeholder="192.0.2.7, port 25, wan" aria-label="Search records" autocomplete="off" '
                 'spellcheck="false"><button type="button" id="all">all</button></form>'
                 '<p id="which" aria-live="polite"></p>'
                 '<div id="list" role="listbox" tabindex="0" aria-label="Records"></div>'
