@@ -8,15 +8,15 @@ from __future__ import annotations
 import enum
 from dataclasses import dataclass, field
 from difflib import SequenceMatcher
-from typing import TYPE_CHECKING, Hashable, Iterator, Sequence, Tuple
+from typing import TYPE_CHECKING, Hashable, Iterable, Iterator, Sequence, Tuple
 
 from pages.listing import lines_of
 from toolbox.evidence import rule_content
 from toolbox.rulesets import tokens_of
 
 if TYPE_CHECKING:
-    from toolbox.evidence import Side
-    from toolbox.rulesets import Rule
+    from toolbox.evidence import Change
+    from toolbox.rulesets import Rule, Ruleset
 
 MOST_PAIRED = 60  # lines of a passage that are paired by what they have in common
 ALIKE = 0.6
@@ -65,20 +65,27 @@ class Keys:
     meant: set[int] = field(default_factory=set)
 
 
-def changed_places(side: Side) -> set[RulePlace]:
-    return {change.rule.place for change in side.changes if change.rule is not None}
+@dataclass(frozen=True)
+class Version:
+    """One of two rulesets, with the places of its rules that the other hasn't."""
+
+    ruleset: Ruleset
+    changed: frozenset[RulePlace]
 
 
-def matched(old: Side, new: Side) -> dict[RulePlace, RulePlace]:
+def version(ruleset: Ruleset, changes: Iterable[Change]) -> Version:
+    return Version(ruleset, frozenset(change.rule.place for change in changes if change.rule is not None))
+
+
+def matched(old: Version, new: Version) -> dict[RulePlace, RulePlace]:
     """The rules that stayed, by their old places."""
-    gone, come = changed_places(old), changed_places(new)
     pairs: dict[RulePlace, RulePlace] = {}
     for chain in old.ruleset.chains:
         there = new.ruleset.by_name.get(chain.name)
         if there is None:
             continue
-        kept = [rule for rule in chain.rules if rule.place not in gone]
-        others = [rule for rule in there.rules if rule.place not in come]
+        kept = [rule for rule in chain.rules if rule.place not in old.changed]
+        others = [rule for rule in there.rules if rule.place not in new.changed]
         texts = [rule_content(old.ruleset, rule) for rule in kept], [rule_content(new.ruleset, rule) for rule in others]
         for block in SequenceMatcher(None, *texts, autojunk=False).get_matching_blocks():
             for place in range(block.size):
@@ -86,7 +93,7 @@ def matched(old: Side, new: Side) -> dict[RulePlace, RulePlace]:
     return pairs
 
 
-def moved(old: Side, new: Side, kept: dict[RulePlace, RulePlace]) -> dict[RulePlace, RulePlace]:
+def moved(old: Version, new: Version, kept: dict[RulePlace, RulePlace]) -> dict[RulePlace, RulePlace]:
     """The rules that stand elsewhere now, by their old places: in their chain first, then in another."""
     waiting: dict[tuple[str, ...], list[Rule]] = {}
     stayed = set(kept.values())
@@ -106,27 +113,38 @@ def moved(old: Side, new: Side, kept: dict[RulePlace, RulePlace]) -> dict[RulePl
     return found
 
 
-def keys_of(side: Side, name_of: dict[RulePlace, Hashable]) -> Keys:
+def keys_of(version: Version, name_of: dict[RulePlace, Hashable]) -> Keys:
     """The keys of a text whose rules have names; other lines are compared by block and words."""
-    ruleset = side.ruleset
+    ruleset = version.ruleset
     keys, rules = Keys(lines_of(ruleset.text)), dict[int, Tuple[Hashable, ...]]()
     keys.meant = {token.line for token in tokens_of(ruleset.text) if token.kind != "newline"}
-    blocks: dict[int, str] = {chain.line: chain.name for chain in ruleset.chains}
-    blocks.update((one.tokens[0].line, one.name) for one in ruleset.sets.values() if one.tokens)
+    blocks = blocks_of(ruleset)
     for rule in ruleset.rules:
         for step, line in enumerate(range(rule.line, rule.tokens[-1].line + 1)):
             rules[line] = (*rules.get(line, ()), (name_of[rule.place], step))
-    block = ""
     for place, text in enumerate(keys.lines, 1):
-        block = blocks.get(place, block)
-        keys.keys.append(rules.get(place) or (block, " ".join(text.split())))
+        keys.keys.append(rules.get(place) or (blocks.get(place, ""), " ".join(text.split())))
     return keys
+
+
+def blocks_of(ruleset: Ruleset) -> dict[int, str]:
+    """By line the chain, set or map within whose braces it stands; these are of it."""
+    begins: dict[int, str] = {chain.line: chain.name for chain in ruleset.chains}
+    begins.update((one.tokens[0].line, one.name) for one in ruleset.sets.values() if one.tokens)
+    blocks: dict[int, str] = {}
+    depth, block = 0, ""
+    for token in tokens_of(ruleset.text):
+        block = begins.get(token.line, block)
+        if depth > 1 or token.line in begins:
+            blocks.setdefault(token.line, block)
+        depth += {"{": 1, "}": -1}.get(token.text, 0)
+    return blocks
 
 
 class Alignment:
     """Both texts, line by line."""
 
-    def __init__(self, old: Side, new: Side) -> None:
+    def __init__(self, old: Version, new: Version) -> None:
         kept = matched(old, new)
         self.moved = moved(old, new, kept)
         back = {new_place: old_place for old_place, new_place in kept.items()}
@@ -140,7 +158,7 @@ class Alignment:
     def name(whose: str, place: RulePlace, kept: dict[RulePlace, RulePlace]) -> Hashable:
         return ("kept", place) if place in kept else (whose, place)
 
-    def moved_lines(self, old: Side, new: Side) -> tuple[dict[int, int], dict[int, int]]:
+    def moved_lines(self, old: Version, new: Version) -> tuple[dict[int, int], dict[int, int]]:
         """The first lines of rules that were moved, from the old text to the new one and back."""
         there: dict[int, int] = {}
         for old_place, new_place in self.moved.items():

@@ -5,7 +5,7 @@ from dataclasses import dataclass
 from itertools import groupby
 from typing import TYPE_CHECKING, Iterator, Sequence
 
-from pages.aligned import Alignment, Line, Mark, Pair
+from pages.aligned import Alignment, Line, Mark, Pair, version
 from pages.listing import coloured, indent_of
 from pages.texts import number, plural, shown
 from toolbox.reach import never_met
@@ -109,7 +109,8 @@ class Both:
 
     def __init__(self, old: Text, new: Text, old_name: str, new_name: str) -> None:
         self.old, self.new, self.names = old, new, (old_name, new_name)
-        self.alignment = Alignment(old.side, new.side)
+        self.alignment = Alignment(
+            *(version(text.side.ruleset, text.side.changes) for text in (old, new)))
 
     def html(self) -> str:
         pairs = self.alignment.pairs

@@ -28,7 +28,8 @@ def verdict(seen: Seen, connections: Mapping[str, int], unsettled: Sequence[str]
         seen.nothing and f"nothing was compared: {seen.nothing}", seen.not_compared, differences(seen, connections),
         *remainders(seen, unsettled)) if part]
     text = "; ".join(parts)
-    return Verdict(f"{text[0].upper()}{text[1:]}.", tone_of(seen, connections))
+    tone = "unknown" if unsettled else tone_of(seen, connections)
+    return Verdict(f"{text[0].upper()}{text[1:]}.", tone)
 
 
 def differences(seen: Seen, connections: Mapping[str, int]) -> str | None:
