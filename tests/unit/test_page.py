@@ -142,9 +142,10 @@ class Verdicts(unittest.TestCase):
 
     def test_it_tells_what_it_does_not_hold_for(self) -> None:
         told = verdict(seen(unmet=1, untold=1, is_torn=True), {}, ["new.nft"])
-        self.assertEqual(told.text, "Nothing differs in this capture; 1 change was met by no packet: nothing is known "
-                                    "of that; whether a packet met 1 more change a run doesn't tell; the capture is "
-                                    "torn, and this is of its 1,234 whole records; the replay of new.nft didn't settle.")
+        self.assertEqual(
+            told.text, "Nothing differs in this capture; 1 change was met by no packet: nothing is known of that; "
+                       "whether a packet met 1 more change a run doesn't tell; the capture is torn, and this is of its "
+                       "1,234 whole records; the replay of new.nft didn't settle.")
         for doubt in (seen(unmet=1), seen(untold=1), seen(is_torn=True)):
             self.assertEqual(verdict(doubt, {}, []).tone, "unknown")
         self.assertEqual(verdict(seen(), {}, ["new.nft"]).tone, "unknown")
