@@ -1,7 +1,7 @@
 """A ruleset that tells more: which rules held that decide nothing, and what the ct state was.
 
-A report tells of rules that decide. The ruleset made here has a `log` statement at the end of the others, and a chain that
-logs the state as soon as connections are looked for; it decides as before.
+A report tells of rules that decide. The ruleset made here has a `log` statement at the end of the others, and a chain
+that logs the state as soon as connections are looked for; it decides as before.
 """
 from __future__ import annotations
 
@@ -26,7 +26,8 @@ class State:
 
 @dataclass(frozen=True)
 class Seen:
-    """What a report tells of a record: its ct state, where that is logged, and its decisions with the rules that held."""
+    """What a report tells of a record: its ct state, where that is logged, and its decisions with the rules that
+    held."""
 
     state: str | None
     decisions: list[Decision]

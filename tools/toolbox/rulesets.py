@@ -9,6 +9,7 @@ from dataclasses import dataclass
 from typing import Iterator, Sequence
 
 from toolbox.commands import Refused, read_text
+from toolbox.language import NFT
 
 TOKEN = re.compile(
     r"""(?P<blank>[ \t\r]+|\\\n|\#[^\n]*)
@@ -33,12 +34,12 @@ class Token:
 
 # Selectors whose values may be spelled like statements: an interface may be called `log`,
 # `redirect` is a type of ICMP, and `snat` a status.
-WORDY_SELECTORS = ("iifname", "oifname", "iif", "oif", "icmp type", "ct status")
+WORDY_SELECTORS = (*NFT.without_meta,
+                   *(name for name in NFT.selectors if not NFT.words_of(name).keys().isdisjoint(NFT.statements)))
 OPERATORS = ("==", "!=", "<", ">", "<=", ">=")
 ENDS = ("accept", "drop", "return", "goto")
-VERDICTS = (*ENDS, "continue", "jump", "vmap")
+VERDICTS = (*NFT.verdicts, "vmap")
 TRANSLATIONS = ("snat", "dnat", "masquerade", "redirect")
-PRIORITIES = {"raw": -300, "mangle": -150, "dstnat": -100, "filter": 0, "security": 50, "srcnat": 100}
 MOST_DIGITS = 20  # of a number that any ruleset has
 EARLY = -200  # filter chains of prerouting up to here run before connections are looked for
 
@@ -256,8 +257,8 @@ def priority_of(texts: Sequence[str]) -> int:
     for text in texts:
         if text in "+-":
             sign = -1 if text == "-" else 1
-        elif text in PRIORITIES:
-            total += PRIORITIES[text]
+        elif text in NFT.priorities:
+            total += NFT.priorities[text]
         elif text.isdecimal() and len(text) <= MOST_DIGITS:
             total += sign * int(text)
     return total
