@@ -72,10 +72,17 @@ SEARCH = """text => {
   return [document.getElementById('which').textContent, head ? head.textContent : ''];
 }"""
 WHICH = "document.getElementById('which').textContent"
-PLACE_OF = """selector => {
-  const link = document.querySelector(selector);
-  link.scrollIntoView({block: 'center', behavior: 'instant'});
-  const box = link.getBoundingClientRect();
+# the middle of an element, once it stands still: lines that come into sight take their own heights
+PLACE_OF = """async selector => {
+  const link = document.querySelector(selector), frame = () => new Promise(requestAnimationFrame);
+  let before, box = link.getBoundingClientRect();
+  do {
+    before = box;
+    link.scrollIntoView({block: 'center', behavior: 'instant'});
+    await frame();
+    await frame();
+    box = link.getBoundingClientRect();
+  } while (box.top !== before.top);
   return [(box.left + box.right) / 2, (box.top + box.bottom) / 2];
 }"""
 SIDES = """[...document.querySelectorAll('.pair:not(.head) .half:not(.empty)')].map(half => [
@@ -146,6 +153,9 @@ def try_records(browser: Browser, checks: Checks, page: str, name: str) -> None:
         browser.open(page, f"#record={record}")
         wanted = [f"Record {record:,}", True, f"{record:,}", True]
         checks.same(f"{name}: opened with #record={record}", browser.value(LANDED), wanted)
+    browser.open(page, "#record=3783")
+    checks.same(f"{name}: opened with a record that isn't there", browser.value(WHICH),
+                "record 3783 isn't among the 3,782 that can be looked at")
     browser.open(page)
     click(browser, ".row:nth-child(3)")
     checks.same(f"{name}: a row of the list", browser.value(LANDED)[:2], ["Record 3", True])

@@ -2,9 +2,10 @@
 
 const LADDER = 80;
 
-// Shows a record, and lists all where it isn't listed; `keepsHash` where the address names it already
+// Shows a record, and lists all where it isn't listed; `keepsHash` where the address names it already. Answers whether
+// there is such a record.
 function show(record, keepsHash) {
-	if (!(record >= 0 && record < count)) return;
+	if (!(record >= 0 && record < count)) return false;
 	if (!shown.includes(record)) everything();
 	chosen = record;
 	const page = Math.floor(shown.indexOf(record) / PAGE) * PAGE;
@@ -17,6 +18,7 @@ function show(record, keepsHash) {
 	at("detail").replaceChildren(...detail(record));
 	at("records").classList.add("has-detail");
 	if (!keepsHash) history.replaceState(null, "", `#record=${record + 1}`);
+	return true;
 }
 
 function markRow(record) {

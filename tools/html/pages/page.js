@@ -18,8 +18,9 @@ function follow() {
 	const [name, rest = ""] = hash.split(/=(.*)/s);
 	const [value, place] = rest.split("&at=");
 	if (name === "record") {
-		show(Number(value) - 1, true);
-		return land();
+		if (show(Number(value) - 1, true)) return land();
+		at("which").textContent = `record ${value} isn't among the ${number(count)} that can be looked at`;
+		return at("records").scrollIntoView({ block: "start" });
 	}
 	const act = {
 		rule: () => byRule(Number(value)), policy: () => byPolicy(Number(value)), outcome: () => byOutcome(value, place),
