@@ -32,10 +32,11 @@ SYN, ACK, SYN_ACK, PUSH = 2, 16, 18, 24
 UNKNOWN, UPLINK = 7, 9  # interfaces
 
 
-def tcp(source: End, destination: End, ttl: int, flags: int, sequence: int, number: int) -> bytes:
+def tcp(source: End, destination: End, ttl: int, flags: int, sequence: int, number: int,
+        acknowledged: int = 1) -> bytes:
     """An IPv4 packet of TCP, with 10 bytes of zero where it pushes data."""
     data = bytes(10) if flags == PUSH else b""
-    body = struct.pack(">HHIIBBHHH", source.port, destination.port, sequence, 1, 80, flags, 512, 0, 0) + data
+    body = struct.pack(">HHIIBBHHH", source.port, destination.port, sequence, acknowledged, 80, flags, 512, 0, 0) + data
     check = total(pseudo(source, destination, 6, len(body)) + body)
     return ip(source, destination, ttl, 6, number, body[:16] + struct.pack(">H", check) + body[18:])
 
@@ -120,4 +121,5 @@ def capture(kind: str) -> bytes:
                                   for one in KINDS[kind]())
 
 
-sys.stdout.buffer.write(capture(sys.argv[1]))
+if __name__ == "__main__":
+    sys.stdout.buffer.write(capture(sys.argv[1]))
