@@ -7,7 +7,8 @@ import support
 from toolbox.hits import Hits
 from toolbox.reach import never_met
 from toolbox.reports import Summary
-from toolbox.rulesets import Ruleset, priority_of, read_ruleset, tokens_of
+from toolbox.lexer import tokens_of
+from toolbox.rulesets import Ruleset, priority_of, read_ruleset
 
 TEXT = '''# first
 table inet filter {
@@ -43,6 +44,12 @@ class Reading(unittest.TestCase):
         self.assertEqual((chain.type, chain.hook, chain.priority, chain.policy), ("filter", "input", -10, "drop"))
         self.assertTrue(self.ruleset.by_name["ip raw pre"].is_early)
         self.assertIsNone(self.ruleset.by_name["inet filter other"].hook)
+
+    def test_up_to_which_priority_chains_are_early(self) -> None:
+        # connections are looked for at -200 (NF_IP_PRI_CONNTRACK); what stands there comes before
+        for priority, is_early in ((-300, True), (-200, True), (-199, False), (-150, False)):
+            text = f"table ip t {{ chain c {{ type filter hook prerouting priority {priority}; }} }}"
+            self.assertEqual(Ruleset(text).by_name["ip t c"].is_early, is_early, priority)
 
     def test_what_rules_do(self) -> None:
         first, second, third, fourth, fifth = self.ruleset.rules
