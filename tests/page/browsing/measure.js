@@ -3,8 +3,8 @@
 (() => {
 	const LEAST = 4.5;
 	const named = element => {
-		const kind = element.className.baseVal ?? element.className;
-		return `${element.tagName.toLowerCase()}${element.id ? `#${element.id}` : ""}${kind ? `.${kind.trim().split(/\s+/).join(".")}` : ""}`;
+		const kinds = (element.className.baseVal ?? element.className).split(/\s+/).filter(Boolean);
+		return [element.tagName.toLowerCase() + (element.id ? `#${element.id}` : ""), ...kinds].join(".");
 	};
 	const short = text => text.trim().replace(/\s+/g, " ").slice(0, 60);
 
@@ -66,11 +66,13 @@
 
 	function placeholders() {
 		const cut = input => {
-			const style = getComputedStyle(input), width = input.clientWidth - parseFloat(style.paddingLeft) - parseFloat(style.paddingRight);
+			const style = getComputedStyle(input);
+			const width = input.clientWidth - parseFloat(style.paddingLeft) - parseFloat(style.paddingRight);
 			canvas.font = style.font;
 			return input.checkVisibility() && canvas.measureText(input.placeholder).width > width;
 		};
-		return [...document.querySelectorAll("input[placeholder]")].filter(cut).map(input => `${input.placeholder} is cut by ${named(input)}`);
+		const inputs = [...document.querySelectorAll("input[placeholder]")];
+		return inputs.filter(cut).map(input => `${input.placeholder} is cut by ${named(input)}`);
 	}
 
 	function numbers() {
@@ -130,29 +132,28 @@
 			const style = getComputedStyle(one), isShape = one instanceof SVGGeometryElement;
 			const top = colour(isShape ? style.fill : style.backgroundColor);
 			if (top[3]) found = found.map(ground => over(top, ground));
-			const pattern = style.backgroundImage.match(/(?:rgba?|color)\([^)]*\)/g) || [];
-			found = [...found, ...pattern.map(colour).filter(part => part[3]).flatMap(part => found.map(ground => over(part, ground)))];
+			const pattern = (style.backgroundImage.match(/(?:rgba?|color)\([^)]*\)/g) || []).map(colour);
+			found = [...found, ...pattern.filter(part => part[3]).flatMap(part => found.map(ground => over(part, ground)))];
 		}
 		return found;
 	}
 
 	function contrast() {
 		const lines = new Set();
-		const judge = (text, style, rect, element, ink) => {
+		const judge = (text, rect, element, ink) => {
 			for (const ground of grounds(rect, element)) {
 				const ratio = contrastOf(over(colour(ink), ground), ground);
-				if (ratio < LEAST) {
-					lines.add(`${named(element)}: ${ratio.toFixed(2)} for ${short(text)} (${ink} on ${ground.slice(0, 3).map(Math.round)})`);
-				}
+				const where = `${ink} on ${ground.slice(0, 3).map(Math.round)}`;
+				if (ratio < LEAST) lines.add(`${named(element)}: ${ratio.toFixed(2)} for ${short(text)} (${where})`);
 			}
 		};
 		for (const { text, element, rects } of texts()) {
 			const style = getComputedStyle(element), isDrawn = element instanceof SVGElement;
-			judge(text, style, rects[0], element, isDrawn ? style.fill : style.color);
+			judge(text, rects[0], element, isDrawn ? style.fill : style.color);
 		}
 		for (const element of document.querySelectorAll("input[placeholder]")) {
 			const style = getComputedStyle(element, "::placeholder");
-			if (element.checkVisibility()) judge(element.placeholder, style, element.getBoundingClientRect(), element, style.color);
+			if (element.checkVisibility()) judge(element.placeholder, element.getBoundingClientRect(), element, style.color);
 		}
 		return [...lines];
 	}

@@ -1,4 +1,5 @@
-"""The page's file: its parts with the style sheet and the script, and a policy that allows no other."""
+"""The page's file: its parts with the style sheet and the script, and a policy that allows no other. What is written
+as HTML, style and script stands in files beside this one."""
 from __future__ import annotations
 
 import base64
@@ -18,6 +19,11 @@ def asset(name: str) -> str:
         return file.read()
 
 
+def filled(name: str, **values: str) -> str:
+    """A file of HTML with what stands for its names, which is HTML itself."""
+    return Template(asset(name)).substitute(values)
+
+
 def script() -> str:
     """The page's script, whose names are its own."""
     return '"use strict";\n(() => {\n' + "\n".join(asset(name) for name in SCRIPTS) + "})();\n"
@@ -33,5 +39,4 @@ def document(title: str, body: str, data: str) -> str:
     style, code = asset("style.css"), script()
     policy = (f"default-src 'none'; style-src {digest(style)}; script-src {digest(code)}; base-uri 'none'; "
               "form-action 'none'")
-    return Template(asset("page.html")).substitute(
-        policy=policy, title=shown(title), style=style, body=body, data=data, script=code)
+    return filled("page.html", policy=policy, title=shown(title), style=style, body=body, data=data, script=code)

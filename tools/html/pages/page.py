@@ -6,7 +6,7 @@ from dataclasses import dataclass
 from typing import TYPE_CHECKING, TextIO
 
 from pages.change import Change, both_html, html_of
-from pages.document import document
+from pages.document import asset, document, filled
 from pages.drops import drops_html
 from pages.listing import Listing
 from pages.model import COPY, UNSENT, Model
@@ -23,10 +23,6 @@ if TYPE_CHECKING:
     from pages.listing import Met
 
 ASIDE = {UNSENT: "not sent", COPY: "outgoing copies"}
-KEYS = (
-    ("/", "search"), ("j k", "next, previous record"), ("Enter", "choose"), ("[ ]", "page of the list"),
-    ("u", "next rule that met no packet"), ("n", "next change of the texts"), ("c", "its connection"),
-    ("Esc", "all records"), ("?", "these keys"))
 
 
 @dataclass(frozen=True)
@@ -66,7 +62,7 @@ class Page:
         parts.append(section("ways", "The way of packets", ways_html(self.model)))
         parts.append(section("drops", "Drops", drops_html(self.model)))
         parts.append(self.work_html())
-        parts.append(footer_html())
+        parts.append(asset("keys.html"))
         return document(f"{rules} over {capture}", "\n".join(parts), packed(self.data()))
 
     # Parts
@@ -113,15 +109,7 @@ class Page:
         bound = "" if kept == self.model.count else (
             f'<p class="bound">The first {number(kept)} of {plural(self.model.count, "record")} can be looked at one '
             "by one; numbers are of all.</p>")
-        return (f'<h2>Records</h2>{bound}<form id="filter" role="search"><input id="search" type="search" '
-                'placeholder="192.0.2.7, port 25, wan" aria-label="Search records" autocomplete="off" '
-                'spellcheck="false"><button type="button" id="all">all</button></form>'
-                '<p id="which" aria-live="polite"></p>'
-                '<div id="list" role="listbox" tabindex="0" aria-label="Records"></div>'
-                '<p id="pages"><button type="button" id="before">before</button>'
-                '<button type="button" id="after">after</button></p><div id="detail" aria-live="polite"></div>'
-                '<noscript><p class="bound">Single records are shown by a script, which this browser doesn\'t run.</p>'
-                "</noscript>")
+        return filled("records.html", bound=bound)
 
     def data(self) -> dict[str, object]:
         """What the script shows of single records."""
@@ -164,12 +152,6 @@ def origin_text(met: Met) -> str:
 
 def section(name: str, heading: str, content: str) -> str:
     return f'<section id="{name}"><h2>{heading}</h2>{content}</section>'
-
-
-def footer_html() -> str:
-    rows = "".join(f"<dt><kbd>{shown(key)}</kbd></dt><dd>{what}</dd>" for key, what in KEYS)
-    return (f'<dialog id="help"><h2>Keys</h2><dl>{rows}</dl><form method="dialog"><button>close</button></form>'
-            "</dialog>")
 
 
 def page(options: Options, output: TextIO) -> int:

@@ -99,7 +99,8 @@ function byProtocol(word) {
 function byInterface(word, names = ["entering", "leaving"]) {
 	const index = Object.keys(data.interfaces).find(one => data.interfaces[one].toLowerCase() === word);
 	if (index === undefined) return null;
-	return record => names.some(name => columns[name][record] === Number(index) && (name === "entering" || columns.after[record]));
+	// 0 is no interface
+	return record => names.some(name => columns[name][record] === Number(index));
 }
 
 function byState(word) {
@@ -126,7 +127,8 @@ function byFlag(word) {
 
 // Words behind the ends, as `echo-request`; and what is said of records without an IPv4 packet
 function byText(word) {
-	const isThere = place => (packetOf(place) ? packetOf(place).words : data.strings[place].toLowerCase().split(" ")).includes(word);
+	const wordsAt = place => packetOf(place) ? packetOf(place).words : data.strings[place].toLowerCase().split(" ");
+	const isThere = place => wordsAt(place).includes(word);
 	const found = new Set(data.strings.map((_, place) => place).filter(isThere));
 	return found.size ? record => found.has(columns.before[record]) || found.has(columns.after[record]) : null;
 }
