@@ -15,8 +15,9 @@ from linux.namespaces import Lab, command
 from linux.nftrun import Run
 from linux.sections import title
 from toolbox import program
-from toolbox.captures import IPV4, LINK_LENGTHS, PROTOCOL_AT, header_of, records
+from toolbox.captures import IPV4, LINK_LENGTHS, PROTOCOL_AT, called, header_of, records
 from toolbox.commands import Refused, check_files, plural, say
+from toolbox.converted import classic
 from toolbox.packets import describe
 from toolbox.rulesets import read_ruleset
 
@@ -43,7 +44,7 @@ def moments(path, most):
     header, latest = header_of(path), 0
     for number, seconds, fraction, _, _, _, data in records(path, MOST_BYTES):
         if number > most:
-            raise Refused(f"{path}: over {most} records; cut it, or say --records")
+            raise Refused(f"{called(path)}: over {most} records; cut it, or say --records")
         latest = max(latest, seconds * 10**9 + fraction * 10**9 // header.fractions)
         yield number, latest, data
 
@@ -77,7 +78,7 @@ class Beside:
         self.link_type = header_of(options.capture).link_type
         self.records = list(moments(options.capture, options.records))
         if not self.records:
-            raise Refused(f"{options.capture}: nothing was compared: no whole record is in it")
+            raise Refused(f"{called(options.capture)}: nothing was compared: no whole record is in it")
         self.run = Run(program.find_program(), options.rules, options.box, options.capture)
         if kernel:
             kernel(self)
@@ -248,7 +249,8 @@ def differing(some, of_all, word):
 def beside_linux(options):
     check_files((options.rules, options.box, options.capture))
     check_needs()
-    beside = Beside(options)
-    for line in lines_of(beside):
-        say(line)
+    with classic(options.capture, options.box) as options.capture:
+        beside = Beside(options)
+        for line in lines_of(beside):
+            say(line)
     return beside.status()

@@ -2,7 +2,7 @@
 from collections import Counter, namedtuple
 
 from linux.differences import counter_differences
-from toolbox.captures import LINK_LENGTHS, LINUX_SLL2, SENT_BY_US, TO_US, header_of, packet_at, records
+from toolbox.captures import LINK_LENGTHS, LINUX_SLL2, SENT_BY_US, TO_US, called, header_of, packet_at, records
 from toolbox.commands import Refused
 from toolbox.packets import describe, identity, without_ports
 from toolbox.reports import RuleCounter
@@ -27,7 +27,7 @@ class Copies:
 
     def __init__(self, capture, box):
         if header_of(capture).link_type != LINUX_SLL2:
-            raise Refused(f"{capture}: a capture of another link type than LINUX_SLL2 has no outgoing copies")
+            raise Refused(f"{called(capture)}: a capture of another link type than LINUX_SLL2 has no outgoing copies")
         came, indices = Counter(), box.index_bytes()
         self.forwarded, self.own = [], 0
         for *_, data in records(capture):
@@ -42,7 +42,7 @@ class Copies:
             elif data[10] == SENT_BY_US:
                 self.own += 1
         if not self.forwarded:
-            raise Refused(f"{capture}: no outgoing copies of packets that came")
+            raise Refused(f"{called(capture)}: no outgoing copies of packets that came")
 
 
 def likeness(forwarded, leaving):

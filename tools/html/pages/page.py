@@ -10,7 +10,9 @@ from pages.model import AFTER_ALL, COPY, Model
 from pages.texts import number, packed, plural, seconds_text, shown
 from toolbox import rulemap
 from toolbox.boxes import Box
+from toolbox.captures import called
 from toolbox.commands import DONE, REFUSED, TORN, Refused, check_files, read_bytes, remark
+from toolbox.converted import classic
 from toolbox.evidence import torn_text
 from toolbox.program import workspace
 from toolbox.rulesets import read_ruleset
@@ -79,7 +81,7 @@ class Page:
         return found
 
     def html(self):
-        rules, capture = (os.path.basename(path) for path in (self.options.rules, self.options.capture))
+        rules, capture = (os.path.basename(path) for path in (self.options.rules, called(self.options.capture)))
         parts = [self.header_html(rules, capture)]
         if self.change:
             old = os.path.basename(self.options.against)
@@ -216,7 +218,7 @@ def footer_html():
 def page(options, output):
     paths = [options.rules, options.box, options.capture] + [path for path in (options.against, options.map) if path]
     check_files(paths)
-    with workspace() as folder:
+    with classic(options.capture, options.box) as options.capture, workspace() as folder:
         made = Page(options, folder)
         output.write(made.html())
     if made.model.torn:
