@@ -1,6 +1,6 @@
 """Packets with nothing special about them, and captures of them: what generators and measurements of bench/ share.
 
-What judges runs by itself (bench/reading.py, and rows.py below it; bench/sizes.py) doesn't stand on this.
+What judges runs by itself (tests/random/reading.py, and rows.py below it; tests/limits/sizes.py) doesn't stand on this.
 """
 from __future__ import annotations
 

@@ -21,7 +21,7 @@ CALL = re.compile(r"(\w+)::([\w:]+)\((.*)\)(?: -> (.+))?")
 IMPLEMENTS = re.compile(r"(\w+)::(\w+): (\w+)")
 TYPE = re.compile(r"(\w+)::(\w+)(?: \{ (.+) \})?")
 # The kinds of places, each with the folder that its files stand in.
-FOLDERS = {"row": "examples/rows/", "test": "crates/", "law": "crates/", "text": ""}
+FOLDERS = {"row": "tests/rows/", "test": "crates/", "law": "crates/", "text": ""}
 ROW = re.compile(r"^(?:row|again|anew) (.+)\n((?:(?!row |again |anew ).*\n?)*)", re.M)
 
 
@@ -246,7 +246,7 @@ SECTIONS = (
     ("edits.txt", "Wrong bodies", "Each stands in an edit of `crates/CRATE/must-fail`, which the prover has to reject.",
      ("wrong body", "what it does", "edits")),
     ("rows.txt", "Worked rows",
-     "Each was worked out by hand. Files `*.rows` stand in `examples/rows`, paths with `src/` in `crates`.",
+     "Each was worked out by hand. Files `*.rows` stand in `tests/rows`, paths with `src/` in `crates`.",
      ("row", "what it shows", "where it stands")),
 )
 READERS = {"calls.txt": surface_found, "edits.txt": edit_found, "rows.txt": row_found}

@@ -122,22 +122,22 @@ def sources() -> Sources:
     for folder in sorted({path.parent for path in found("examples/*/in.pcap")}):
         names = {RULES: "rules.nft", BOX: "box.txt", CAPTURE: "in.pcap", REPORT: "report.txt"}
         families.append({word: (folder / name).read_bytes() for word, name in names.items()})
-    cases = TOP / "tools/cases"
+    cases = TOP / "tests/tools"
     router = {RULES: (cases / "rules/router.nft").read_bytes(), BOX: (cases / "rules/router.box.txt").read_bytes()}
-    for path in found("tools/cases/align/*/output.pcap"):
+    for path in found("tests/tools/align/*/output.pcap"):
         families.append({**router, CAPTURE: path.read_bytes()})
     made = str(cases / "made/capture.py")
     for kind in ("forwarded", "vlan", "offload"):
         capture = subprocess.run([sys.executable, made, kind], stdout=subprocess.PIPE, check=True).stdout
         families.append({**router, CAPTURE: capture})
-    rulesets = contents(found("examples/*/rules.nft", "tools/cases/**/*.nft", "examples/check/*.nft"))
+    rulesets = contents(found("examples/*/rules.nft", "tests/tools/**/*.nft", "examples/check/*.nft"))
     allowed = (b'{"list": "blocked", "new": {"chain": "inet filter forward", "text": "policy"}, "ports": ["udp 53"]}\n'
                b'# none\n{"list": "opened", "old": {"verdict": "drop"}, "new": null}\n')
     head = b'{"rule-map": 1, "sha256": "00", "rules": "r.nft"}\n{"chain": "ip t c", "rule": 1, "was-chain": "ip t c", '
     alone = {
-        RULES: rulesets, OTHER_RULES: rulesets, BOX: contents(found("examples/*/box.txt", "tools/cases/**/*box.txt")),
-        REPORT: contents(found("examples/*/report.txt")), LISTING: contents(found("tools/cases/recorded/counted.nft")),
-        PACKETS: contents(found("tools/cases/**/packets.txt")), ADDRESSES: contents(found("examples/box/*.addr.txt")),
+        RULES: rulesets, OTHER_RULES: rulesets, BOX: contents(found("examples/*/box.txt", "tests/tools/**/*box.txt")),
+        REPORT: contents(found("examples/*/report.txt")), LISTING: contents(found("tests/tools/recorded/counted.nft")),
+        PACKETS: contents(found("tests/tools/**/packets.txt")), ADDRESSES: contents(found("examples/box/*.addr.txt")),
         ROUTES: contents(found("examples/box/*.route.txt")), ALLOWED: [allowed],
         MAP: [head + b'"was": 1, "file": "r.nft", "line": 2, "text": "accept", "counters": []}\n'],
     }

@@ -10,7 +10,7 @@ import unittest
 from typing import Sequence
 
 TOP = pathlib.Path(__file__).resolve().parent.parent.parent
-sys.path[:0] = [str(TOP / "tools")]
+sys.path[:0] = [str(TOP / "tools"), str(TOP / "tests/shared")]
 
 from toolbox.captures import LINK_LENGTHS, LINUX_SLL2, SENT_BY_US, TO_US, records, sll2_header  # noqa: E402
 from toolbox.captures import write_header, write_record  # noqa: E402

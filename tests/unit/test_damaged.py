@@ -1,4 +1,4 @@
-"""Damaged inputs over all tools: a small share of what tests/fuzz_tools tries."""
+"""Damaged inputs over all tools: a small share of what tests/fuzz/fuzz-tools tries."""
 from __future__ import annotations
 
 import os

@@ -17,7 +17,7 @@ STATUSES = {
     "box-from-ip": {0, 2}, "compare": {0, 1, 2, 7}, "convert": {0, 2, 7}, "doctor": {0, 1, 2}, "fit": {0, 1, 2},
     "packet": {0, 2}, "page": {0, 2, 7}, "report-to-json": {0, 2, 7}, "start": {0, 1, 2, 7}, "why": {0, 1, 2, 7}}
 FILES = {"compare": "compare-rulesets", "fit": "fit-ruleset"}
-CASES = TOP / "tools/cases"
+CASES = TOP / "tests/tools"
 README = (TOP / "tools/README.md").read_text(encoding="utf-8")
 # a digit that stands for a status: behind it comes what it means
 MEANT = re.compile(r"(?<![\w.-])([0-9])(?=[ .;:,\n])")

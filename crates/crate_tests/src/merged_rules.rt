@@ -394,7 +394,7 @@ fn is_compiled<R: Abort + AllocGlobal>(rt: &R, row: &Row) -> bool {
 }
 
 /// What the report has of the nested matches, the written mark and the rule after `accept`, rows of
-/// `examples/rows` have.
+/// `tests/rows` have.
 #[test]
 fn rules_are_merged_and_dropped(rt: HostRuntime) {
     for row in 0..MERGED.len() {

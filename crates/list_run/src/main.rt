@@ -1,6 +1,6 @@
 //! `list_run run [--trace] RULES BOX IN OUT`: what `nftrun run` writes, with the connections in a
 //! plain list that is searched, where `nftrun` finds them by an index and removes them from queues.
-//! `scripts/test-rows` compares both with the stored runs; it is no program for users.
+//! `tests/rows/test-rows` compares both with the stored runs; it is no program for users.
 #![tactic(auto)]
 
 mod replay;

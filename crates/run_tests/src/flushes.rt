@@ -1,5 +1,5 @@
 //! A flush that fails stops the run. A file's flush never fails, so the built program can't show
-//! it; `bench/refuse` refuses that program's reads and writes.
+//! it; `tests/refuse/test-refuse` refuses that program's reads and writes.
 use crate::support::{
     AT_1_5, BOX, DeviceSettings, HEADER, PLAIN, RunResult, bytes, run_over, shows,
 };

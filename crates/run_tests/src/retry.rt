@@ -1,4 +1,4 @@
-//! A record whose step was refused memory is stepped again. Nothing is refused here: `bench/refuse`
+//! A record whose step was refused memory is stepped again. Nothing is refused here: `test-refuse`
 //! runs this test over and over, and refuses each request of its steps in turn.
 ghost use Rattle.std.specs.Prelude.{◌<◌};
 
@@ -162,7 +162,7 @@ fn open_file<R: Abort + AllocGlobal + Files>(rt: &R) {
 }
 
 /// Steps the record; whether there was memory for it. A file is opened before and after the step,
-/// so that `bench/refuse` can tell its requests from all others.
+/// so that `tests/refuse/test-refuse` can tell its requests from all others.
 fn try_step<R: Abort + AllocGlobal + Files>(
     rt: &R,
     engine: &mut Engine<AgedTracker>,

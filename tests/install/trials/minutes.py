@@ -1,0 +1,39 @@
+"""README's first ten minutes and its change, word by word, from what was installed."""
+from __future__ import annotations
+
+import os
+import re
+import time
+from pathlib import Path
+
+from release.layout import SHARE
+from trials.trial import Trial, run
+
+HEADINGS = ("## First ten minutes", "## One change, from edit to load")
+BLOCK = re.compile(r"```sh\n(.*?)```", re.S)
+# A line of the block says behind `# prints` how its output begins.
+PRINTS = re.compile(r"# prints (.*)$")
+
+
+def lines_of(readme: str) -> list[str]:
+    sections = [readme.split(it, 1)[1].split("\n## ", 1)[0] for it in HEADINGS if it in readme]
+    blocks = [block for section in sections for block in BLOCK.findall(section)]
+    return [line for block in blocks for line in block.splitlines() if line.strip()]
+
+
+def test_minutes(trial: Trial, prefix: Path) -> None:
+    """Does what README says in an empty folder, with /usr where the prefix is."""
+    lines = lines_of((prefix / SHARE / "README.md").read_text(encoding="utf-8"))
+    trial.expect(len(lines) >= 5, f'README has no commands in "{HEADINGS[0]}"')
+    folder = trial.folder / "ten-minutes"
+    folder.mkdir()
+    began = time.monotonic()
+    path = f"{prefix / 'bin'}:{os.environ.get('PATH', '')}"
+    for line in lines:
+        ended = run(["sh", "-c", line.replace("/usr/share/doc/nftrun", str(prefix / SHARE))], folder, PATH=path)
+        # compare ends with 1 where something differs
+        right = ended.status in ((0, 1) if line.startswith("nftrun compare") else (0,)) and not ended.err
+        trial.expect(right, f"README: {line}: status {ended.status}, {ended.err.strip()}")
+        wanted = PRINTS.search(line)
+        trial.expect(not wanted or ended.out.startswith(wanted[1]), f"README: {line}: prints {ended.out[:80]!r}")
+    print(f"install: README's first ten minutes, {len(lines)} lines, in {time.monotonic() - began:.1f} s")
