@@ -31,7 +31,7 @@ IPV6 = b"\x86\xdd"
 GROUP_BIT, ALL_STATIONS = 1, b"\xff" * 6
 # Hardware types of ARP, as LINUX_SLL2 has them
 OF_ETHERNET, OF_NOTHING = 1, 0xFFFE
-LAST_SECOND = 1 << 32
+LAST_MOMENT = (1 << 32) * pcapng.NANOSECONDS
 TORN_END = b"\0"  # no header of a record
 
 
@@ -143,6 +143,7 @@ class Conversion:
     def __init__(self, path: str, name: str, box: Box | None, is_cut: bool = False) -> None:
         self.path, self.name, self.box, self.is_cut = path, name, box, is_cut
         self.sources: Dict[Identity, Source] = {}
+        self.identities: Dict[int, Identity] = {}  # by section and number
         self.without_time = self.shortened = 0
         reader = pcapng.Reader(path, name)
         for number, packet in enumerate(reader.packets(), 1):
@@ -153,16 +154,32 @@ class Conversion:
 
     def take(self, number: int, packet: pcapng.Packet) -> None:
         moment = packet.nanoseconds()
-        if moment is not None and not 0 <= moment < LAST_SECOND * pcapng.NANOSECONDS:
+        if moment is None:
+            self.without_time += 1
+        elif not 0 <= moment < LAST_MOMENT:
             raise Refused(f"{self.name}: record {number} isn't of the years 1970 to 2105, which a capture can tell")
-        self.without_time += moment is None
-        self.shortened += packet.is_cut()
-        source = self.sources.setdefault(self.identity(packet.interface), Source(packet.interface))
+        elif packet.interface.units > pcapng.NANOSECONDS or pcapng.NANOSECONDS % packet.interface.units:
+            self.shortened += packet.is_cut()
+        identity = self.identity(packet.interface)
+        source = self.sources.get(identity)
+        if source is None:
+            source = self.sources[identity] = Source(packet.interface)
         source.packets += 1
-        source.undirected += not packet.flags & pcapng.DIRECTION
-        source.aside += kind_of(packet) in (SENT_BY_US, OTHER_STATION)
+        if not packet.flags:
+            source.undirected += 1
+        else:
+            source.undirected += not packet.flags & pcapng.DIRECTION
+            source.aside += kind_of(packet) in (SENT_BY_US, OTHER_STATION)
 
     def identity(self, interface: pcapng.Interface) -> Identity:
+        """Which interface it is; asked of each packet, so it is found once."""
+        place = interface.section << 32 | interface.number
+        found = self.identities.get(place)
+        if found is None:
+            found = self.identities[place] = self.new_identity(interface)
+        return found
+
+    def new_identity(self, interface: pcapng.Interface) -> Identity:
         if self.box is not None and interface.name in self.box.indices:
             return Identity(interface.name, 0, 0, interface.link_type)
         return Identity(None, interface.section, interface.number, interface.link_type)

@@ -112,14 +112,21 @@ class Reader:
             if at + length > size:
                 self.torn = True
                 return
-            if kind in (INTERFACE, OLD_PACKET, SIMPLE_PACKET, PACKET):
-                if length > LARGEST_BLOCK:
-                    raise self.damaged(at, f"a block of {length} bytes")
-                yield Block(kind, at, file.read(length - BLOCK_HEADER - BLOCK_END))
-            file.seek(at + length - BLOCK_END)
-            if struct.unpack(self.order + "I", file.read(BLOCK_END))[0] != length:
-                raise self.damaged(at, "a block that tells two lengths")
+            if kind not in (INTERFACE, OLD_PACKET, SIMPLE_PACKET, PACKET):
+                file.seek(at + length - BLOCK_END)
+                self.check_end(at, length, file.read(BLOCK_END))
+            elif length > LARGEST_BLOCK:
+                raise self.damaged(at, f"a block of {length} bytes")
+            else:
+                body = file.read(length - BLOCK_HEADER)
+                self.check_end(at, length, body[-BLOCK_END:])
+                yield Block(kind, at, body[:-BLOCK_END])
             at += length
+
+    def check_end(self, at: int, length: int, end: bytes) -> None:
+        """Refuses a block that tells another length at its end."""
+        if end != struct.pack(self.order + "I", length):
+            raise self.damaged(at, "a block that tells two lengths")
 
     def begin_section(self, head: bytes, at: int) -> bool:
         """Takes the byte order of a section, whose body begins so; answers whether that is whole."""
@@ -184,10 +191,12 @@ class Reader:
             raise self.damaged(block.at, "a packet that is too short")
         number, *_, high, low, length, original = struct.unpack_from(self.order + form, block.body)
         data = self.data_of(block, begin, length)
-        flags = self.options(block, begin + length + -length % 4).get(FLAGS, bytes(4))
-        if len(flags) != 4:
-            raise self.damaged(block.at, "a packet whose flags can't be read")
-        told = struct.unpack(self.order + "I", flags)[0]
+        behind, told = begin + length + -length % 4, 0
+        if behind < len(block.body):
+            flags = self.options(block, behind).get(FLAGS, bytes(4))
+            if len(flags) != 4:
+                raise self.damaged(block.at, "a packet whose flags can't be read")
+            told = struct.unpack(self.order + "I", flags)[0]
         return Packet(self.interface(block, number), high << 32 | low, original, data, told)
 
     def simple_packet_of(self, block: Block) -> Packet:
