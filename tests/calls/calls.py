@@ -1,10 +1,15 @@
 """Reads the rows of tests/calls, and tells which calls of the system each call of the program on its host is."""
+from __future__ import annotations
+
+import enum
 import errno
 import re
+from dataclasses import dataclass
+from typing import Iterable, Mapping, Sequence
 
-# A call on the host, and the calls of the system that it makes, in their order, as tests/shared/shim.c notes them: `|` stands between
-# those of which each may come, `+` behind what is made once or more, `?` behind what is made on a terminal alone. The words are in
-# memory, and a ruleset is judged there.
+# A call on the host, and the calls of the system that it makes, in their order, as tests/shared/shim.c notes them: `|`
+# stands between those of which each may come, `+` behind what is made once or more, `?` behind what is made on a
+# terminal alone. The words are in memory, and a ruleset is judged there.
 SYSTEM = (
     ("words|judge .+", ""),
     ("read (.+)", r"open \1, read \1+"),
@@ -22,88 +27,140 @@ SYSTEM = (
 )
 
 
+class Often(enum.Enum):
+    """How often a call of the system is made, by what stands behind its pattern."""
+
+    ONCE = ""
+    MANY = "+"
+    ON_TERMINAL = "?"
+
+
+@dataclass(frozen=True)
 class Step:
-    """One of these calls of the system: made once (""), once or more ("+"), or once on a terminal ("?")."""
+    """One of these calls of the system: the lines that may be noted of it."""
 
-    def __init__(self, text, paths):
-        self.often = text[-1] if text[-1] in "+?" else ""
-        self.notes = [noted(note, paths) for note in text.rstrip("+?").split("|")]
+    notes: Sequence[str]
+    often: Often
 
-    def pattern(self, often=None):
+    @staticmethod
+    def read(text: str, paths: Mapping[str, str]) -> Step:
+        often = Often(text[-1]) if text[-1] in "+?" else Often.ONCE
+        return Step([noted(note, paths) for note in text.rstrip("+?").split("|")], often)
+
+    def pattern(self, often: str | None = None) -> str:
         """A pattern of the lines that are noted of it."""
         notes = "|".join(map(re.escape, self.notes))
-        return f"(?:(?:{notes})\n){self.often if often is None else often}"
+        return f"(?:(?:{notes})\n){self.often.value if often is None else often}"
 
 
-def noted(note, paths):
+@dataclass(frozen=True)
+class Failing:
+    """A call that fails, by its number, the call of the system by which it does (None: memory), and the error."""
+
+    number: int
+    note: str | None
+    error: int
+
+
+def noted(note: str, paths: Mapping[str, str]) -> str:
     """The line of a call, with the path of the file that it names."""
     kind, space, name = note.partition(" ")
     return kind + space + paths.get(name, name)
 
 
-def steps(call, paths):
+def steps(call: str, paths: Mapping[str, str]) -> list[Step]:
     """The calls of the system that a call on the host makes."""
     for form, made in SYSTEM:
         match = re.fullmatch(form, call)
         if match:
-            return [Step(step, paths) for step in match.expand(made).split(", ") if step]
+            return [Step.read(step, paths) for step in match.expand(made).split(", ") if step]
     raise SystemExit(f"tests/calls: there is no call {call}")
 
 
-def notes_of(calls):
+def notes_of(calls: Iterable[str]) -> list[str]:
     """The lines of the calls of the system that are made in these calls on the host, each once for each of them."""
     return [note for call in calls for step in steps(call, {}) for note in step.notes]
 
 
-def stopped(made, note):
-    """A pattern of what is noted where these steps end as this call of the system fails, or a request for memory (None)."""
+def stopped(made: Iterable[Step], note: str | None) -> str:
+    """A pattern of what is noted where these steps end as this call of the system fails, or a request for memory
+    (None)."""
     text = ""
     for step in made:
-        if note in step.notes:
-            return text + step.pattern("*" if step.often == "+" else "{0}") + re.escape(note) + "\n"
+        if note is not None and note in step.notes:
+            return text + step.pattern("*" if step.often is Often.MANY else "{0}") + re.escape(note) + "\n"
         text += step.pattern("*" if note is None else None)
     return text
 
 
-def pattern(calls, paths, failing=None):
-    """A pattern of what is noted of these calls on the host, with the paths of their files, where these differ from their names.
-    `failing` is the number of a call that fails, the call of the system by which it does (None: memory), and the error."""
+def pattern(calls: Sequence[str], paths: Mapping[str, str], failing: Failing | None = None) -> str:
+    """A pattern of what is noted of these calls on the host, with the paths of their files, where these differ from
+    their names."""
     text = ""
     for number, call in enumerate(calls):
         made = steps(call, paths)
-        text += stopped(made, failing[1]) if failing and failing[0] == number else "".join(step.pattern() for step in made)
+        if failing and failing.number == number:
+            text += stopped(made, failing.note)
+        else:
+            text += "".join(step.pattern() for step in made)
     return text
 
 
-def refusal(calls, number, note, error):
-    """What has tests/shared/shim.c refuse a call of the system, or memory (None), within the call on the host of this number."""
-    before = notes_of(calls[:number])
-    if note is None:
+def refusal(calls: Sequence[str], failing: Failing) -> dict[str, str]:
+    """What has tests/shared/shim.c refuse a call of the system, or memory, within a call on the host."""
+    before = notes_of(calls[:failing.number])
+    if failing.note is None:
         # A request for memory is told by how many files were opened before it.
         opened = sum(made.startswith(("open ", "create ")) for made in before)
         return {"REFUSE_CALL": "memory", "REFUSE_ALL": "1", "REFUSE_ONLY": "-abcde"[opened]}
-    return {"REFUSE_CALL": note, "REFUSE_AT": str(before.count(note) + 1), "REFUSE_ERRNO": str(error)}
+    at = before.count(failing.note) + 1
+    return {"REFUSE_CALL": failing.note, "REFUSE_AT": str(at), "REFUSE_ERRNO": str(failing.error)}
 
 
-def ways(call, error):
+def ways(call: str, error: int) -> Sequence[str | None]:
     """The calls of the system by which a call on the host may fail with this error; None stands for memory."""
-    found = [note for step in steps(call, {}) if step.often != "?" for note in step.notes]
+    found = [note for step in steps(call, {}) if step.often is not Often.ON_TERMINAL for note in step.notes]
     if error == errno.ENOMEM and (call.startswith("run ") or not found):
         # A run takes any failed call for one of its devices.
         return [None]
     return found
 
 
+@dataclass(frozen=True)
+class Pair:
+    """Two paths that are one file, or one terminal."""
+
+    one: str
+    other: str
+
+    @staticmethod
+    def read(text: str) -> Pair:
+        one, other = text.split()
+        return Pair(one, other)
+
+    @property
+    def paths(self) -> tuple[str, str]:
+        return self.one, self.other
+
+
+Lists = Mapping[str, Sequence[str]]
+
+
 class Row:
     """Arguments, what happens on the host, the calls that are made on it, and the exit status."""
 
-    def __init__(self, name):
+    def __init__(self, name: str, words: Sequence[str] = (), calls: Sequence[str] = (),
+                 status: int | None = None) -> None:
         self.name = name
-        self.words, self.calls, self.status = [], [], None
+        self.words, self.calls, self.status = list(words), list(calls), status
         self.capture, self.is_refused, self.is_on_terminal = "whole", False, False
-        self.fails = self.same = self.terminal = self.absent = None
+        self.same: Pair | None = None
+        self.terminal: Pair | None = None
+        self.absent: str | None = None
+        self.fails_at: int | None = None
+        self.error = 0
 
-    def take(self, word, rest, lists):
+    def take(self, word: str, rest: str, lists: Lists) -> None:
         """Takes a line, or raises `ValueError`."""
         if word == "words":
             self.words = rest.split()
@@ -114,14 +171,22 @@ class Row:
             self.calls += [lists[name][number] for number in range(int(count))]
         elif word == "status":
             self.status = int(rest)
-        elif word == "fails":
+        else:
+            self.take_event(word, rest)
+
+    def take_event(self, word: str, rest: str) -> None:
+        """Takes what happens on the host."""
+        if word == "fails":
             number, name = rest.split()
-            self.fails = int(number), getattr(errno, name)
-        elif word in ("same", "terminal"):
-            one, other = rest.split()
-            setattr(self, word, (one, other))
-        elif word in ("capture", "absent"):
-            setattr(self, word, rest)
+            self.fails_at, self.error = int(number), getattr(errno, name)
+        elif word == "same":
+            self.same = Pair.read(rest)
+        elif word == "terminal":
+            self.terminal = Pair.read(rest)
+        elif word == "capture":
+            self.capture = rest
+        elif word == "absent":
+            self.absent = rest
         elif (word, rest) == ("refused", ""):
             self.is_refused = True
         elif (word, rest) == ("errors", "terminal"):
@@ -129,23 +194,40 @@ class Row:
         else:
             raise ValueError
 
-    def failing(self):
-        """The number of the call that fails, the first call of the system in it (None: memory), and the error."""
-        if not self.fails:
+    def failing(self) -> Failing | None:
+        """The call that fails, by the first call of the system in it."""
+        if self.fails_at is None:
             return None
-        number, error = self.fails
-        return number, ways(self.calls[number], error)[0], error
+        return Failing(self.fails_at, ways(self.calls[self.fails_at], self.error)[0], self.error)
 
 
-def lines(path):
+@dataclass(frozen=True)
+class Calls:
+    """The lists of calls of a file, by their names, and its rows."""
+
+    lists: Lists
+    rows: Sequence[Row]
+
+
+@dataclass(frozen=True)
+class Answer:
+    """A line `QUESTION => ANSWER`."""
+
+    question: str
+    answer: str
+
+
+def lines(path: str) -> list[str]:
     """The lines of a file that are neither empty nor comments."""
     with open(path, encoding="utf-8") as file:
         return [line for line in file.read().split("\n") if line and not line.startswith("#")]
 
 
-def read(path):
-    """The lists of calls of a file, by their names, and its rows."""
-    lists, rows, row, calls = {}, [], None, []
+def read(path: str) -> Calls:
+    lists: dict[str, list[str]] = {}
+    rows: list[Row] = []
+    row: Row | None = None
+    calls: list[str] = []
     for line in lines(path):
         word, _, rest = line.partition(" ")
         try:
@@ -162,23 +244,24 @@ def read(path):
                 raise ValueError
         except (ValueError, LookupError, AttributeError):
             raise SystemExit(f"{path}: can't be read: {line}") from None
-    return lists, rows
+    return Calls(lists, rows)
 
 
-def answers(path):
-    """The pairs of a file of lines `QUESTION => ANSWER`."""
-    pairs = []
+def answers(path: str) -> list[Answer]:
+    """The lines `QUESTION => ANSWER` of a file."""
+    found = []
     for line in lines(path):
         question, arrow, answer = line.partition("=> ")
         if not arrow:
             raise SystemExit(f"{path}: can't be read: {line}")
-        pairs.append((question.strip(), answer))
-    return pairs
+        found.append(Answer(question.strip(), answer))
+    return found
 
 
-def texts(path):
+def texts(path: str) -> dict[str, str]:
     """The texts of a file, each below a line `== NAME`."""
-    found, name = {}, None
+    found: dict[str, str] = {}
+    name = ""
     for line in lines(path):
         if line.startswith("== "):
             name = line.removeprefix("== ")

@@ -1,4 +1,6 @@
 """A folder in which a program runs, with files, links and terminals, and tests/shared/shim.c before the C library."""
+from __future__ import annotations
+
 import array
 import fcntl
 import os
@@ -9,19 +11,31 @@ import subprocess
 import termios
 import time
 import tty
+from dataclasses import dataclass
+from typing import Callable, Mapping, Sequence
+
+from files import contents, store
 
 
-def contents(path):
-    with open(path, "rb") as file:
-        return file.read()
+@dataclass(frozen=True)
+class Terminal:
+    """Both ends of a terminal."""
+
+    near: int
+    far: int
 
 
-def store(path, data):
-    with open(path, "wb") as file:
-        file.write(data)
+@dataclass(frozen=True)
+class Given:
+    """What a run of the program gave: its status, its outputs, and the lines of its calls."""
+
+    status: int
+    printed: str
+    errors: str
+    notes: str
 
 
-def all_of(reader):
+def all_of(reader: int) -> str:
     """The text that is written to a pipe or a terminal until it is closed."""
     pieces = []
     while True:
@@ -36,42 +50,35 @@ def all_of(reader):
     return b"".join(pieces).decode("utf-8", "replace")
 
 
-def open_terminal():
-    """Both ends of a terminal that passes bytes on as they are, and that ends for its reader where nothing waits."""
+def open_terminal() -> Terminal:
+    """A terminal that passes bytes on as they are, and that ends for its reader where nothing waits."""
     near, far = pty.openpty()
     tty.setraw(far)
     setting = termios.tcgetattr(far)
     setting[6][termios.VMIN] = setting[6][termios.VTIME] = 0
     termios.tcsetattr(far, termios.TCSANOW, setting)
-    return near, far
+    return Terminal(near, far)
 
 
-def waiting(far):
+def waiting(far: int) -> int:
     """How many bytes a terminal has for its reader."""
     count = array.array("i", [0])
     fcntl.ioctl(far, termios.FIONREAD, count)
     return count[0]
 
 
-class Given:
-    """What a run of the program gave: its status, its outputs, and the lines of its calls."""
-
-    def __init__(self, status, printed, errors, notes):
-        self.status, self.printed, self.errors, self.notes = status, printed, errors, notes
-
-
 class Sandbox:
     """A program and the folder in which it runs."""
 
-    def __init__(self, program, shim, top):
+    def __init__(self, program: str, shim: str, top: str) -> None:
         self.program, self.shim = program, shim
         self.folder, self.beside = f"{top}/files", f"{top}/beside"
-        self.terminal = None
+        self.terminal: Terminal | None = None
 
-    def path(self, name):
+    def path(self, name: str) -> str:
         return f"{self.beside}/printed" if name == "/dev/stdout" else f"{self.folder}/{name}"
 
-    def fill(self, files):
+    def fill(self, files: Mapping[str, bytes]) -> None:
         """Has these files, by their names, and no others."""
         for folder in (self.folder, self.beside):
             shutil.rmtree(folder, ignore_errors=True)
@@ -79,51 +86,57 @@ class Sandbox:
         for name, data in {"/dev/stdout": b"", **files}.items():
             store(self.path(name), data)
 
-    def held(self):
+    def held(self) -> dict[str, bytes]:
         """What the regular files hold, by their names."""
         paths = {name: self.path(name) for name in os.listdir(self.folder)}
         return {name: contents(path) for name, path in paths.items() if os.path.isfile(path)}
 
-    def join(self, one, other, link):
+    def join(self, one: str, other: str, link: Callable[[str, str], None]) -> None:
         """Makes two paths one file."""
         os.unlink(self.path(one))
         link(self.path(other), self.path(one))
 
-    def join_to_terminal(self, names):
+    def join_to_terminal(self, names: Sequence[str]) -> None:
         """Makes these paths one terminal, which has for its reader what IN had, if that is among them."""
-        near, far = self.terminal = open_terminal()
+        self.terminal = open_terminal()
         data = contents(self.path("in")) if "in" in names else b""
-        os.write(near, data)
+        os.write(self.terminal.near, data)
         end = time.monotonic() + 10
-        while waiting(far) < len(data) and time.monotonic() < end:
+        while waiting(self.terminal.far) < len(data) and time.monotonic() < end:
             time.sleep(0.001)
         for name in names:
             os.unlink(self.path(name))
-            os.symlink(os.ttyname(far), self.path(name))
+            os.symlink(os.ttyname(self.terminal.far), self.path(name))
 
-    def taken(self, count):
+    def taken(self, count: int) -> bytes:
         """What was written to that terminal, which is closed; so many bytes are waited for."""
-        near, far = self.terminal
+        if self.terminal is None:
+            return b""
         data = b""
-        while select.select([near], [], [], 10 if len(data) < count else 0.05)[0]:
-            data += os.read(near, 65_536)
-        os.close(near)
-        os.close(far)
+        while select.select([self.terminal.near], [], [], 10 if len(data) < count else 0.05)[0]:
+            data += os.read(self.terminal.near, 65_536)
+        os.close(self.terminal.near)
+        os.close(self.terminal.far)
         return data
 
-    def call(self, words, setting=None, is_on_terminal=False):
+    def call(self, words: Sequence[str], setting: Mapping[str, str] | None = None,
+             is_on_terminal: bool = False) -> Given:
         """Runs the program with these words; standard output is a file, and standard error a terminal or a pipe."""
         notes = f"{self.beside}/notes"
         store(notes, b"")
         environment = {"LD_PRELOAD": self.shim, "NOTE_CALLS": notes, **(setting or {})}
-        reader, writer = open_terminal() if is_on_terminal else os.pipe()
-        words = [os.fsencode(word).replace(b"<FF>", b"\xff") for word in words]
+        if is_on_terminal:
+            terminal = open_terminal()
+            reader, writer = terminal.near, terminal.far
+        else:
+            reader, writer = os.pipe()
         with open(self.path("/dev/stdout"), "r+b") as output:
             # The program calls itself what it is called by.
             child = subprocess.Popen(
-                ["nftrun", *words], executable=self.program, cwd=self.folder, env=environment,
-                stdin=subprocess.DEVNULL, stdout=output, stderr=writer,
-            )
+                [b"nftrun", *(os.fsencode(word).replace(b"<FF>", b"\xff") for word in words)], executable=self.program,
+                cwd=self.folder, env=environment, stdin=subprocess.DEVNULL, stdout=output, stderr=writer)
         os.close(writer)
         errors = all_of(reader)
-        return Given(child.wait(), contents(self.path("/dev/stdout")).decode("utf-8", "replace"), errors, contents(notes).decode())
+        status = child.wait()
+        printed = contents(self.path("/dev/stdout")).decode("utf-8", "replace")
+        return Given(status, printed, errors, contents(notes).decode())

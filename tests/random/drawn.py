@@ -1,12 +1,23 @@
-"""Rulesets drawn by chance, the same for the same seed. They have what indexes on rules could get wrong: long runs of rules that
-begin with matches of one selector or few, rules of one match and a verdict that are merged, and marks that rules write and later
-rules match. Values are drawn from few, so that many rules match. Some rulesets translate.
+"""Rulesets drawn by chance, the same for the same seed. They have what indexes on rules could get wrong: long runs of
+rules that begin with matches of one selector or few, rules of one match and a verdict that are merged, and marks that
+rules write and later rules match. Values are drawn from few, so that many rules match. Some rulesets translate.
 """
+from __future__ import annotations
+
+import random
+from dataclasses import dataclass
+from typing import Callable, Iterator, Sequence, Tuple, TypeVar, Union
+
 from reading import (
-    PRIORITIES, Box, Chain, Counter, HasBits, HasOfMask, Interface, IsIn, IsPart, Log, Lookup, Match, Name, Notrack, Rule,
-    SetMark, Span, Table, Translate, Verdict, VerdictMap,
+    PRIORITIES, Box, Chain, Counter, Element, HasBits, HasOfMask, Head, Interface, IsIn, IsPart, Log, Lookup, Match,
+    Name, Notrack, Pair, Part, Route, Rule, SetMark, Span, Statement, Table, Translate, Verdict, VerdictMap, Word,
+    shares,
 )
-from tracking import STATES
+from tracking import State
+from translating import Ports
+
+T = TypeVar("T")
+Kinds = Tuple[str, ...]  # types of the values of an element, or selectors
 
 LAN, LAN0, WAN, W = Interface(2, "lan"), Interface(3, "lan0"), Interface(5, "wan"), Interface(17, "w")
 FIRST = 0x0A000000
@@ -22,8 +33,8 @@ default lan
 BOX = Box(
     [LAN, LAN0, WAN, W],
     {FIRST + 1: LAN, FIRST + 9: LAN0, FIRST + 10: LAN0, FIRST + 17: WAN, FIRST + 41: W},
-    [(FIRST, 29, LAN), (FIRST + 8, 29, LAN0), (FIRST + 8, 29, LAN0), (FIRST + 16, 28, WAN), (FIRST + 40, 30, W)]
-    + [(FIRST + 32, 29, LAN0), (FIRST + 16, 29, W)],
+    [Route(FIRST, 29, LAN), Route(FIRST + 8, 29, LAN0), Route(FIRST + 8, 29, LAN0), Route(FIRST + 16, 28, WAN),
+     Route(FIRST + 40, 30, W), Route(FIRST + 32, 29, LAN0), Route(FIRST + 16, 29, W)],
 )
 
 # Of each selector the type of its values; those whose types have no name stand for themselves.
@@ -36,16 +47,17 @@ KINDS = {
     "meta mark": "mark", "ct mark": "mark", "meta nfproto": "nf_proto",
     "ct state": "ct_state", "ct direction": "ct_dir", "ct status": "ct_status",
 }
-WORDS = {
+WORDS: dict[str, dict[str, int]] = {
     "inet_proto": {"icmp": 1, "igmp": 2, "tcp": 6, "udp": 17, "gre": 47},
     "inet_service": {"ssh": 22, "smtp": 25},
     "tcp_flag": {"fin": 1, "syn": 2, "rst": 4, "psh": 8, "ack": 16, "urg": 32, "ecn": 64, "cwr": 128},
     "icmp_type": {
         "echo-reply": 0, "destination-unreachable": 3, "source-quench": 4, "redirect": 5, "echo-request": 8,
-        "router-advertisement": 9, "time-exceeded": 11, "parameter-problem": 12, "timestamp-request": 13, "info-reply": 16,
+        "router-advertisement": 9, "time-exceeded": 11, "parameter-problem": 12, "timestamp-request": 13,
+        "info-reply": 16,
     },
     "nf_proto": {"ipv4": 2, "ipv6": 10},
-    "ct_state": STATES,
+    "ct_state": {state.word: state.value for state in State},
     "ct_dir": {"original": 0, "reply": 1},
     "ct_status": {"seen-reply": 2, "snat": 16, "dnat": 32},
     "iface_index": {"lan": 2, "lan0": 3, "wan": 5, "w": 17},
@@ -59,9 +71,11 @@ ORDERED = ("ipv4_addr", "inet_service", "mark", "ip ttl", "ip length", "meta len
 RANGED = (*ORDERED, "inet_proto", "icmp_type")
 NAMES = ("lan", "lan0", "wan", "w", "la", "eth0")
 # Before the lookup and behind it, before the nat chains and behind them, and at each border.
-PREROUTING = ("raw", "raw - 1", "-250", "-200", "-199", "mangle", "-101", "dstnat", "-99", "filter", "-5", "filter + 5")
+PREROUTING = (
+    "raw", "raw - 1", "-250", "-200", "-199", "mangle", "-101", "dstnat", "-99", "filter", "-5", "filter + 5")
 HOOKS = ["prerouting"] * 5 + ["input"] * 5 + ["forward"] * 8 + ["postrouting"] * 5 + ["output"]
-PRIORITIES_DRAWN = {"prerouting": PREROUTING, "postrouting": ("mangle", "filter", "security", "99", "srcnat", "101")}
+PRIORITIES_DRAWN: dict[str, Kinds] = {
+    "prerouting": PREROUTING, "postrouting": ("mangle", "filter", "security", "99", "srcnat", "101")}
 OTHERS = ("filter", "-5", "filter + 5", "security", "mangle", "raw")
 
 # The types of bits, which are matched by lists of them.
@@ -69,13 +83,13 @@ BITS = ("ct_state", "ct_status", "tcp_flag")
 # Of these types a value is often met.
 FEW_VALUES = ("ct_state", "ct_status", "iface_index")
 
-# Where addresses and ports are drawn from few: the last numbers of the addresses of hosts and of those that NAT gives to sources,
-# of which the last is nobody's; and ports of both classes and parities.
+# Where addresses and ports are drawn from few: the last numbers of the addresses of hosts and of those that NAT gives
+# to sources, of which the last is nobody's; and ports of both classes and parities.
 HOSTS = (2, 3, 11, 26, 34)
 EXTERNAL = (17, 17, 9, 41, 30)
 PORTS = (0, 2, 3, 4, 22, 1023, 1024, 65_535)
 # The NAT statements that chains of a hook may have.
-NAT_WORDS = {
+NAT_WORDS: dict[str, Kinds] = {
     "prerouting": ("dnat", "dnat", "dnat", "redirect"),
     "postrouting": ("snat", "snat", "masquerade"),
     "output": ("dnat", "redirect"),
@@ -86,13 +100,78 @@ MOST_RULES = 60
 CHAINS = 4
 # What a chain may cost, so that all base chains together cost less than a ruleset may.
 MOST_COST = 8_000
+ZERO = Span(0, 0)
 
 
-def dotted(address):
+@dataclass(frozen=True)
+class WrittenPart:
+    """A value, a range or a name, as it is written."""
+
+    part: Part
+    text: str
+
+
+@dataclass(frozen=True)
+class Set:
+    """The elements of a set, and how it is written where it is asked for."""
+
+    elements: Sequence[Element]
+    text: str
+
+
+@dataclass(frozen=True)
+class Map:
+    """The pairs of a map, and how it is written where it is asked for."""
+
+    pairs: Sequence[Pair]
+    text: str
+
+
+@dataclass(frozen=True)
+class WrittenData:
+    """What an element of a map leads to, as it is written."""
+
+    data: Union[int, Verdict]
+    text: str
+
+
+@dataclass(frozen=True)
+class Bits:
+    """A list of bits: their sum, and its members as they are written."""
+
+    bits: int
+    members: list[str]
+
+
+@dataclass(frozen=True)
+class Base:
+    """The hook and the type of a base chain."""
+
+    hook: str
+    kind: str
+
+
+@dataclass(frozen=True)
+class WrittenChain:
+    """A chain with the line that makes it a base chain, if it is one."""
+
+    chain: Chain
+    head: str = ""
+
+
+@dataclass(frozen=True)
+class WrittenTable:
+    """A table and its text."""
+
+    table: Table
+    text: str
+
+
+def dotted(address: int) -> str:
     return ".".join(str(address >> shift & 255) for shift in (24, 16, 8, 0))
 
 
-def priority_of(text):
+def priority_of(text: str) -> int:
     """The number of a priority."""
     name, *rest = text.split(" ")
     base = PRIORITIES[name] if name in PRIORITIES else int(name)
@@ -102,33 +181,33 @@ def priority_of(text):
 class Drawing:
     """Draws by chance."""
 
-    def __init__(self, dice, has_few):
+    def __init__(self, dice: random.Random, has_few: bool) -> None:
         self.dice = dice
         # Whether addresses and ports are drawn from few, so that those that are translated come together.
         self.has_few = has_few
         # Whether matches are drawn of which few hold, so that packets come to the end of long chains.
         self.is_sparse = False
 
-    def below(self, number):
+    def below(self, number: int) -> int:
         # (randrange() takes three times as long.)
         return int(self.dice.random() * number)
 
-    def chance(self, percent):
+    def chance(self, percent: int) -> bool:
         return self.below(100) < percent
 
-    def one(self, *choices):
+    def one(self, *choices: T) -> T:
         return choices[self.below(len(choices))]
 
     # ---- values
 
-    def address(self):
+    def address(self) -> int:
         """An address of a host, or of the box."""
         return FIRST + (self.one(*HOSTS) if self.has_few and self.chance(90) else self.below(48))
 
-    def port(self):
+    def port(self) -> int:
         return self.one(*PORTS) if self.has_few else self.below(48) if self.chance(95) else 65_535
 
-    def number(self, kind):
+    def number(self, kind: str) -> int:
         """A number of a type without words alone, from few or, seldom, at the greatest."""
         most = GREATEST[kind]
         if self.chance(5):
@@ -144,10 +223,10 @@ class Drawing:
         words = list(WORDS.get(kind, {}).values())
         return self.below(48) if not words or self.chance(80 if self.is_sparse else 40) else self.one(*words)
 
-    def flags(self):
+    def flags(self) -> int:
         return self.one(2, 2, 16, 18, 17, 4, 4, 24, self.below(64), self.below(256))
 
-    def text(self, kind, number):
+    def text(self, kind: str, number: int) -> str:
         """How the number may be written."""
         words = [word for word, value in WORDS.get(kind, {}).items() if value == number]
         if kind == "ipv4_addr":
@@ -156,58 +235,63 @@ class Drawing:
             return words[0]
         return hex(number) if self.chance(10) else str(number)
 
-    def value(self, kind):
-        """A value, and its text."""
+    def value(self, kind: str) -> WrittenPart:
+        """A value."""
         if kind == "ifname":
             return self.interface_name()
         if kind in ("ct_state", "ct_status", "iface_index"):
             number = self.one(*WORDS[kind].values())
         else:
             number = self.number(kind)
-        return Span(number, number), self.text(kind, number)
+        return WrittenPart(Span(number, number), self.text(kind, number))
 
-    def interface_name(self):
+    def interface_name(self) -> WrittenPart:
         name = f"x{self.below(30)}" if self.chance(80 if self.is_sparse else 0) else self.one(*NAMES)
         if self.chance(25):
-            beginning = name[: 1 + self.below(len(name))]
-            return Name(beginning, True), f'"{beginning}*"'
-        return Name(name, False), f'"{name}"' if self.chance(70) else name
+            beginning = name[:1 + self.below(len(name))]
+            return WrittenPart(Name(beginning, True), f'"{beginning}*"')
+        return WrittenPart(Name(name, False), f'"{name}"' if self.chance(70) else name)
 
-    def part(self, kind):
-        """A value, a range or a prefix, and its text."""
+    def part(self, kind: str) -> WrittenPart:
+        """A value, a range or a prefix."""
         if kind not in RANGED or self.chance(85 if self.is_sparse else 45):
             return self.value(kind)
         low = self.number(kind)
         if kind == "ipv4_addr" and self.chance(30):
             length = self.one(24, 27, 28, 29, 30, 31, 32, 0 if self.chance(5) else 29)
             first = low >> 32 - length << 32 - length
-            return Span(first, first + 2 ** (32 - length) - 1), f"{dotted(low)}/{length}"
+            return WrittenPart(Span(first, first + 2 ** (32 - length) - 1), f"{dotted(low)}/{length}")
         high = min(GREATEST[kind], low + (self.below(2**32) if self.chance(3) else self.below(9)))
         texts = [dotted(it) if kind == "ipv4_addr" else str(it) for it in (low, high)]
-        return Span(low, high), "-".join(texts)
+        return WrittenPart(Span(low, high), "-".join(texts))
 
-    def element(self, kinds):
-        """An element of a set: a part for each type, of a concatenation a value each; and its text."""
+    def element(self, kinds: Kinds) -> list[WrittenPart]:
+        """An element of a set: a part for each type, of a concatenation a value each."""
         if len(kinds) == 1:
-            part, text = self.part(kinds[0])
-            return (part,), text
+            return [self.part(kinds[0])]
         # A packet's mark is 0 at first.
-        zero = Span(0, 0), "0"
-        drawn = [zero if kind == "mark" and self.chance(60) else self.value(kind) for kind in kinds]
-        return tuple(part for part, _ in drawn), " . ".join(text for _, text in drawn)
+        zero = WrittenPart(ZERO, "0")
+        return [zero if kind == "mark" and self.chance(60) else self.value(kind) for kind in kinds]
 
-    def elements(self, kinds, least=1):
-        """The elements of a set, and their texts."""
-        drawn = [self.element(kinds) for _ in range(least + self.below(5))]
-        return [element for element, _ in drawn], [text for _, text in drawn]
+    def elements(self, kinds: Kinds, least: int = 1) -> list[list[WrittenPart]]:
+        """The elements of a set."""
+        return [self.element(kinds) for _ in range(least + self.below(5))]
+
+
+def parts(element: Sequence[WrittenPart]) -> Element:
+    return tuple(one.part for one in element)
+
+
+def written(element: Sequence[WrittenPart]) -> str:
+    """The text of an element."""
+    return " . ".join(one.text for one in element)
 
 
 class Style:
-    """How consecutive rules are drawn: the selectors that they begin with, what most of them are, the mask of those that ask for
-    flags, and the percentage of rules of one match and a verdict, which are merged.
-    """
+    """How consecutive rules are drawn: the selectors that they begin with, what most of them are, the mask of those
+    that ask for flags, and the percentage of rules of one match and a verdict, which are merged."""
 
-    def __init__(self, drawing):
+    def __init__(self, drawing: TableDrawing) -> None:
         drawing.is_sparse = drawing.chance(65)
         self.selectors = [drawing.selector() for _ in range(1 if drawing.chance(40) else 2 + drawing.below(6))]
         self.kind = drawing.one("plain", "plain", "plain", "plain", "wide", "masked", "maps")
@@ -218,27 +302,28 @@ class Style:
 class TableDrawing(Drawing):
     """Draws a table."""
 
-    def __init__(self, dice, name, is_translating):
+    def __init__(self, dice: random.Random, name: str, is_translating: bool) -> None:
         super().__init__(dice, is_translating)
         self.name, self.is_translating = name, is_translating
         self.most_rules = self.one(8, 16, MOST_RULES) if is_translating else MOST_RULES
         # Of chains that may translate, the words for that.
-        self.words = {}
-        self.sets, self.maps = {}, {}
-        self.declared = []
+        self.words: dict[str, Kinds] = {}
+        self.sets: dict[Kinds, list[Set]] = {}
+        self.maps: dict[tuple[str, Kinds], list[Map]] = {}
+        self.declared: list[str] = []
         # What the chains without a hook cost, by their names: the last is drawn first, and jumps lead to later ones.
-        self.costs = {}
+        self.costs: dict[str, int] = {}
 
     # ---- sets and maps
 
-    def declare(self, word, name, kinds, data, texts):
-        """Declares a set or a map, by the names of types or by selectors."""
+    def declare(self, name: str, kinds: Kinds, data: str | None, texts: Sequence[str]) -> None:
+        """Declares a set, or a map where it has data, by the names of types or by selectors."""
         is_named = all(kind not in KINDS for kind in kinds)
         if is_named and self.chance(70):
             head = "type " + " . ".join(kinds) + (f" : {data}" if data else "")
         else:
             selectors = [self.one(*(it for it, of in KINDS.items() if of == kind)) for kind in kinds]
-            data = {"mark": "meta mark", "ipv4_addr": "ip saddr"}.get(data, data)
+            data = {"mark": "meta mark", "ipv4_addr": "ip saddr"}.get(data, data) if data else None
             head = "typeof " + " . ".join(selectors) + (f" : {data}" if data else "")
         lines = [head]
         if any("-" in text or "/" in text for text in texts) and self.chance(50):
@@ -246,47 +331,46 @@ class TableDrawing(Drawing):
         if texts:
             lines.append("elements = { " + ", ".join(texts) + self.one("", ",") + " }")
         self.dice.shuffle(lines)
-        self.declared.append(block(f"{word} {name}", lines))
+        self.declared.append(block(f"{'map' if data else 'set'} {name}", lines))
 
-    def named_set(self, kinds):
-        """A set of these types, which other rules may ask for: its elements and its name."""
+    def named_set(self, kinds: Kinds) -> Set:
+        """A set of these types, which other rules may ask for."""
         known = self.sets.setdefault(kinds, [])
         if len(known) < 4:
             name = f"s{sum(map(len, self.sets.values()))}"
-            elements, texts = self.elements(kinds, least=0)
-            self.declare("set", name, kinds, None, texts)
-            known.append((elements, f"@{name}"))
+            elements = self.elements(kinds, least=0)
+            self.declare(name, kinds, None, [written(one) for one in elements])
+            known.append(Set([parts(one) for one in elements], f"@{name}"))
         return self.one(*known)
 
-    def pairs(self, kind, data):
-        """Elements of a map of which no two share a number, each with what `data` draws with its text; and their texts."""
-        pairs, texts = [], []
-        for element, text in zip(*self.elements((kind,), least=8)):
-            if not any(shares(*element, *other) for other, _ in pairs):
-                value, value_text = data()
-                pairs.append((element, value))
-                texts.append(f"{text} : {value_text}")
-        return pairs, texts
+    def pairs(self, kind: str, data: Callable[[], WrittenData]) -> list[Pair]:
+        """Elements of a map of which no two share a number, each with what `data` draws."""
+        pairs: list[Pair] = []
+        for (key,) in self.elements((kind,), least=8):
+            if not any(shares(key.part, other.element[0]) for other in pairs):
+                value = data()
+                pairs.append(Pair((key.part,), value.data, f"{key.text} : {value.text}"))
+        return pairs
 
-    def lookup(self, word, data, key):
+    def lookup(self, word: str, data: Callable[[], WrittenData], key: Kinds) -> tuple[Lookup, str]:
         """A selector looked up in a map of such data, and the map's text. Rules whose data have one key share maps."""
         selector = self.one(*KINDS)
         kind = KINDS[selector]
         if self.chance(50):
-            pairs, texts = self.pairs(kind, data)
-            return Lookup(selector, pairs), "{ " + ", ".join(texts) + " }"
+            pairs = self.pairs(kind, data)
+            return Lookup(selector, pairs), "{ " + ", ".join(one.text for one in pairs) + " }"
         known = self.maps.setdefault((kind, key), [])
         if len(known) < 2:
             name = f"m{sum(map(len, self.maps.values()))}"
-            pairs, texts = self.pairs(kind, data)
-            self.declare("map", name, (kind,), word, texts)
-            known.append((pairs, f"@{name}"))
-        pairs, text = self.one(*known)
-        return Lookup(selector, pairs), text
+            pairs = self.pairs(kind, data)
+            self.declare(name, (kind,), word, [one.text for one in pairs])
+            known.append(Map(pairs, f"@{name}"))
+        found = self.one(*known)
+        return Lookup(selector, found.pairs), found.text
 
     # ---- matches
 
-    def selector(self):
+    def selector(self) -> str:
         """A selector. Marks are frequent, since rules write what later rules match, and so is what translations do."""
         if self.chance(30):
             return self.one("meta mark", "ct mark")
@@ -296,68 +380,69 @@ class TableDrawing(Drawing):
         # Few matches hold.
         return self.selector() if self.is_sparse and KINDS[selector] in FEW_VALUES and self.chance(70) else selector
 
-    def bits(self, kind, operator=""):
-        """A list of words or numbers of bits: their bits, and the list's members, of which `==` mostly has one."""
+    def bits(self, kind: str, operator: str = "") -> Bits:
+        """A list of words or numbers of bits, of which `==` mostly has one."""
         words = list(WORDS[kind])
         members = self.dice.sample(words, self.one(1, 1, 1, 2) if operator == "==" else self.one(1, 1, 2, 2, 3))
         bits = sum(WORDS[kind][word] for word in members)
         if kind == "tcp_flag" and self.chance(20):
             number = self.flags()
             members, bits = [*members, str(number)], bits | number
-        return bits, members
+        return Bits(bits, members)
 
-    def plain(self, selector, operator=None):
+    def plain(self, selector: str, operator: str | None = None) -> Match:
         """A match of one selector with a value, a range or a list of bits."""
         kind = KINDS[selector]
         if kind in BITS:
             operator = self.one("", "", "==") if kind == "tcp_flag" else self.one("", "", "==", "!=")
-            bits, members = self.bits(kind, operator)
-            text = f"{selector} {operator} {','.join(members)}".replace("  ", " ")
-            return Match((selector,), operator, HasBits(operator, bits), text)
+            drawn = self.bits(kind, operator)
+            text = f"{selector} {operator} {','.join(drawn.members)}".replace("  ", " ")
+            return Match((selector,), operator, HasBits(operator, drawn.bits), text)
         if operator is None:
             is_ordered = kind in ORDERED and self.chance(4 if self.is_sparse else 25)
             operator = self.one("<", "<=", ">", ">=") if is_ordered else self.one("", "", "", "==")
-        part, text = self.value(kind) if operator and operator[0] in "<>" else self.part(kind)
-        written = f"meta {selector}" if kind in ("ifname", "iface_index") and self.chance(20) else selector
-        return Match((selector,), operator, IsPart(operator, part), f"{written} {operator} {text}".replace("  ", " "))
+        value = self.value(kind) if operator and operator[0] in "<>" else self.part(kind)
+        shown = f"meta {selector}" if kind in ("ifname", "iface_index") and self.chance(20) else selector
+        text = f"{shown} {operator} {value.text}".replace("  ", " ")
+        return Match((selector,), operator, IsPart(operator, value.part), text)
 
-    def in_set(self, selectors, operator, is_named):
+    def in_set(self, selectors: Kinds, operator: str, is_named: bool) -> Match:
         """A match in a set."""
         kinds = tuple(KINDS[selector] for selector in selectors)
-        if is_named:
-            elements, text = self.named_set(kinds)
-        else:
-            elements, texts = self.elements(kinds)
-            text = "{ " + ", ".join(texts) + " }"
+        found = self.named_set(kinds) if is_named else self.anonymous_set(kinds)
         kind = ("named" if is_named else "anonymous") + (" concatenation" if len(selectors) > 1 else "")
-        written = f"{' . '.join(selectors)} {operator} {text}".replace("  ", " ")
-        return Match(selectors, operator, IsIn(operator, elements, kind), written)
+        shown = f"{' . '.join(selectors)} {operator} {found.text}".replace("  ", " ")
+        return Match(selectors, operator, IsIn(operator, found.elements, kind), shown)
 
-    def masked(self, mask=None):
+    def anonymous_set(self, kinds: Kinds) -> Set:
+        elements = self.elements(kinds)
+        return Set([parts(one) for one in elements], "{ " + ", ".join(map(written, elements)) + " }")
+
+    def masked(self, mask: int | None = None) -> Match:
         """A match of flags under a mask, in one of its two forms."""
-        mask_text = hex(mask) if mask else None
+        mask_text = hex(mask) if mask else ""
         if mask is None:
-            mask, members = self.bits("tcp_flag")
-            mask_text = "|".join(members)
+            drawn = self.bits("tcp_flag")
+            mask, mask_text = drawn.bits, "|".join(drawn.members)
         bits = self.number("tcp_flag") & mask
         words = [word for word, bit in WORDS["tcp_flag"].items() if bits & bit]
         text = "|".join(words) if words and self.chance(60) else str(bits)
         operator = "!=" if self.chance(1 if self.is_sparse else 25) else "=="
         if self.chance(30):
             shown = "" if operator == "==" and self.chance(50) else f" {operator}"
-            written = f"tcp flags{shown} {text} / {mask_text}".replace("|", ",")
+            whole = f"tcp flags{shown} {text} / {mask_text}".replace("|", ",")
         else:
             mask_text, text = (f"({it})" if "|" in it or self.chance(20) else it for it in (mask_text, text))
-            written = f"tcp flags & {mask_text} {operator} {text}"
-        return Match(("tcp flags",), operator, HasOfMask(operator, mask, bits), written)
+            whole = f"tcp flags & {mask_text} {operator} {text}"
+        return Match(("tcp flags",), operator, HasOfMask(operator, mask, bits), whole)
 
-    def joined(self, selector):
+    def joined(self, selector: str) -> Kinds:
         """The selector and others with it, in a concatenation of at most 128 bits."""
         if KINDS[selector] == "ifname":
             selector = "iif"
         return (selector, "meta mark", "ip protocol") if self.chance(20) else (selector, "meta mark")
 
-    def first(self, selector):
+    def first(self, selector: str) -> Match:
         """The match that a rule begins with: mostly one of its own values, else one that other rules share."""
         drawn = self.below(92 if self.is_sparse else 100)
         if drawn < 58:
@@ -374,7 +459,7 @@ class TableDrawing(Drawing):
             return self.plain(selector, "!=")
         return self.masked()
 
-    def wide(self, selector):
+    def wide(self, selector: str) -> Match:
         """A match on more than 32 bits: an interface's name, or a concatenation in a set of its own."""
         drawn = self.below(10)
         if drawn < 5:
@@ -385,20 +470,23 @@ class TableDrawing(Drawing):
 
     # ---- statements
 
-    def verdict(self, later, most):
+    def verdict(self, later: Sequence[str], most: int) -> Verdict:
         """A verdict. Jumps lead to one of those later chains, and not to one that costs more."""
-        word = self.one("accept", "drop", "return", "jump", "jump", "goto", "continue", "continue")
-        if word in ("jump", "goto"):
+        word = self.one(Word.ACCEPT, Word.DROP, Word.RETURN, Word.JUMP, Word.JUMP, Word.GOTO, Word.CONTINUE,
+                        Word.CONTINUE)
+        if word in (Word.JUMP, Word.GOTO):
             reachable = [name for name in later if self.costs[name] <= most]
-            return Verdict(word, self.one(*reachable)) if reachable else Verdict("continue")
+            return Verdict(word, self.one(*reachable)) if reachable else Verdict(Word.CONTINUE)
         return Verdict(word)
 
-    def last_verdict(self, later):
+    def last_verdict(self, later: Sequence[str]) -> Verdict:
         """A verdict of a rule that may be merged with its neighbours."""
-        word = self.one("accept", "accept", "drop", "goto", "return", "return")
-        return Verdict("goto", later[0]) if word == "goto" and later else Verdict("return" if word == "goto" else word)
+        word = self.one(Word.ACCEPT, Word.ACCEPT, Word.DROP, Word.GOTO, Word.RETURN, Word.RETURN)
+        if word is Word.GOTO:
+            return Verdict(word, later[0]) if later else Verdict(Word.RETURN)
+        return Verdict(word)
 
-    def set_mark(self):
+    def set_mark(self) -> SetMark:
         field = self.one("meta mark", "ct mark")
         drawn = self.below(10)
         if drawn < 5:
@@ -407,27 +495,27 @@ class TableDrawing(Drawing):
         if drawn < 7:
             operand = self.one("meta mark", "ct mark")
             return SetMark(field, operand, f"{field} set {operand}")
-        lookup, text = self.lookup("mark", self.marked, "mark")
+        lookup, text = self.lookup("mark", self.marked, ("mark",))
         return SetMark(field, lookup, f"{field} set {lookup.selector} map {text}")
 
-    def marked(self):
-        """A mark, and its text."""
+    def marked(self) -> WrittenData:
+        """A mark."""
         number = self.number("mark")
-        return number, str(number)
+        return WrittenData(number, str(number))
 
-    def counter(self):
+    def counter(self) -> Counter:
         if self.chance(80):
             return Counter(0, 0, "counter")
         packets, octets = self.below(1000), self.below(2**40)
         return Counter(packets, octets, f"counter packets {packets} bytes {octets}")
 
-    def log(self):
+    def log(self) -> Log:
         prefix = self.one(None, "a", "", "two words: ")
         return Log(prefix, "log" if prefix is None else f'log prefix "{prefix}"')
 
-    def rest(self, chain, later):
+    def rest(self, chain: str, later: Sequence[str]) -> list[Statement]:
         """The statements behind a rule's first match, up to a verdict."""
-        statements = []
+        statements: list[Statement] = []
         for _ in range(3):
             drawn = self.below(20)
             if drawn < 2:
@@ -446,68 +534,76 @@ class TableDrawing(Drawing):
                 return [*statements, self.verdict_map(chain, later)]
         return statements
 
-    def verdict_map(self, chain, later):
+    def verdict_map(self, chain: str, later: Sequence[str]) -> VerdictMap:
         """A map of verdicts. One that rules share leads to the last chain at most."""
         most = MOST_COST - self.costs[chain]
         reachable = [name for name in later[-1:] if self.costs[name] <= most]
 
-        def data():
+        def data() -> WrittenData:
             verdict = self.verdict(reachable, most)
-            return verdict, verdict.text
+            return WrittenData(verdict, verdict.text)
 
-        lookup, text = self.lookup("verdict", data, tuple(reachable))
+        lookup, text = self.lookup("verdict", data, ("verdict", *reachable))
         return VerdictMap(lookup, f"{lookup.selector} vmap {text}")
 
     # ---- NAT statements
 
-    def translating(self, first, words):
-        """The statements of a rule that ends with one of these NAT statements. Often the first is a match that holds for some
-        packets, in place of that one.
-        """
+    def translating(self, first: Match, words: Kinds) -> list[Statement]:
+        """The statements of a rule that ends with one of these NAT statements. Often the first is a match that holds
+        for some packets, in place of that one."""
         is_source = "snat" in words
         if self.chance(70):
             interface = "oif" if is_source else "iif"
-            first = self.plain(self.one("ip saddr", "ip daddr", "th sport", "th dport", "ip protocol", *[interface] * 3))
-        statements = [first] if self.chance(94 if is_source else 99) else []
+            fields = ("ip saddr", "ip daddr", "th sport", "th dport", "ip protocol")
+            first = self.plain(self.one(*fields, *[interface] * 3))
+        statements: list[Statement] = [first] if self.chance(94 if is_source else 99) else []
         if self.chance(30):
-            statements.append(self.one(self.counter, self.log, self.set_mark)())
+            draws: tuple[Callable[[], Statement], ...] = (self.counter, self.log, self.set_mark)
+            statements.append(self.one(*draws)())
         return [*statements, self.translate(words)]
 
-    def translate(self, words):
+    def translate(self, words: Kinds) -> Translate:
         """One of these NAT statements."""
         word = self.one(*words)
         ports = self.ports(word) if self.chance(50) else None
         # One port is written alone.
-        port_text = ":" + "-".join(map(str, ports if ports[0] != ports[1] else ports[:1])) if ports else ""
+        port_text = ""
+        if ports:
+            port_text = f":{ports.low}" if ports.low == ports.high else f":{ports.low}-{ports.high}"
         if word in ("redirect", "masquerade"):
             return Translate(word, None, ports, f"{word} to {port_text}" if ports else word)
         head = word + self.one(" to", " ip to")
         if self.chance(25):
-            lookup, text = self.lookup("ipv4_addr", lambda: self.end(word), word)
+            lookup, text = self.lookup("ipv4_addr", lambda: self.end(word), (word,))
             return Translate(word, lookup, None, f"{head} {lookup.selector} map {text}")
-        address, text = self.end(word)
-        return Translate(word, address, ports, f"{head} {text}{port_text}")
+        address = self.end_address(word)
+        return Translate(word, address, ports, f"{head} {dotted(address)}{port_text}")
 
-    def ports(self, word):
+    def ports(self, word: str) -> Ports:
         """A port, or a range of few for a source."""
         low = self.port() or 1
-        return low, min(65_535, low + self.below(4)) if word in ("snat", "masquerade") else low
+        return Ports(low, min(65_535, low + self.below(4)) if word in ("snat", "masquerade") else low)
 
-    def end(self, word):
-        """An address that `snat` or `dnat` may lead to, and its text."""
-        address = FIRST + self.one(*(EXTERNAL if word == "snat" else HOSTS * 2 + EXTERNAL))
-        return address, dotted(address)
+    def end_address(self, word: str) -> int:
+        """An address that `snat` or `dnat` may lead to."""
+        return FIRST + self.one(*(EXTERNAL if word == "snat" else HOSTS * 2 + EXTERNAL))
+
+    def end(self, word: str) -> WrittenData:
+        """The same, in a map."""
+        address = self.end_address(word)
+        return WrittenData(address, dotted(address))
 
     # ---- chains
 
-    def cost(self, statement):
+    def cost(self, statement: Statement) -> int:
         """What a statement adds to its chain's cost (docs/CHECK.md, N06)."""
-        verdicts = [statement]
+        verdicts: list[object] = [statement]
         if isinstance(statement, VerdictMap):
-            verdicts = [verdict for _, verdict in statement.lookup.pairs]
-        return 1 + max((self.costs[one.chain] for one in verdicts if isinstance(one, Verdict) and one.chain), default=0)
+            verdicts = [pair.data for pair in statement.lookup.pairs]
+        chains = [one.chain for one in verdicts if isinstance(one, Verdict) and one.chain]
+        return 1 + max((self.costs[chain] for chain in chains), default=0)
 
-    def stretch(self, chain, later):
+    def stretch(self, chain: str, later: Sequence[str]) -> Iterator[Rule]:
         """Consecutive rules of a chain, as long as it may cost more."""
         style = Style(self)
         for _ in range(self.below(self.most_rules)):
@@ -517,11 +613,12 @@ class TableDrawing(Drawing):
                 self.costs[chain] = cost
                 yield Rule(statements)
 
-    def statements(self, style, chain, later):
+    def statements(self, style: Style, chain: str, later: Sequence[str]) -> list[Statement]:
         """The statements of a rule."""
         first = self.styled(style)
         if chain in self.words and self.chance(20 if "dnat" in self.words[chain] else 40):
             return self.translating(first, self.words[chain])
+        rest: list[Statement]
         if style.kind == "maps" and self.chance(40):
             rest = [self.verdict_map(chain, later)]
         elif self.chance(style.plain):
@@ -531,7 +628,7 @@ class TableDrawing(Drawing):
         is_matching = self.chance(50 if style.kind == "maps" else 99)
         return [first, *rest] if is_matching or not rest else rest
 
-    def styled(self, style):
+    def styled(self, style: Style) -> Match:
         """The match that a rule begins with."""
         selector = self.one(*style.selectors) if self.chance(99) else self.selector()
         if style.kind == "wide" and self.chance(98):
@@ -540,65 +637,62 @@ class TableDrawing(Drawing):
             return self.masked(style.mask)
         return self.first(selector)
 
-    def rules(self, chain, later):
+    def rules(self, chain: str, later: Sequence[str]) -> list[Rule]:
         self.costs[chain] = 0
         return [rule for _ in range(self.one(1, 2, 2, 3)) for rule in self.stretch(chain, later)]
 
-    def head(self):
-        """A hook and a type."""
+    def base(self) -> Base:
+        """The hook and the type of a base chain."""
         hook = self.one(*HOOKS)
-        return hook, "nat" if hook in NAT_WORDS and self.chance(20) else "filter"
+        return Base(hook, "nat" if hook in NAT_WORDS and self.chance(20) else "filter")
 
-    def base_chain(self, number, later, hook, kind):
-        """A base chain, and its head."""
+    def base_chain(self, number: int, later: Sequence[str], base: Base) -> WrittenChain:
+        """A base chain."""
         self.is_sparse = False
+        name, hook, kind = f"b{number}", base.hook, base.kind
         fitting = [it for it in PRIORITIES_DRAWN.get(hook, OTHERS) if kind == "filter" or priority_of(it) > -200]
-        priority, policy = self.one(*fitting), self.one(None, "accept", "accept", "accept", "drop")
+        priority = self.one(*fitting)
+        policy = self.one(None, Word.ACCEPT, Word.ACCEPT, Word.ACCEPT, Word.DROP)
         policy = None if self.is_translating and self.chance(90) else policy
         if self.is_translating and kind == "nat":
-            self.words[f"b{number}"] = NAT_WORDS[hook]
+            self.words[name] = NAT_WORDS[hook]
             later = [f"{hook}-nat", *later] if f"{hook}-nat" in self.words else later
-        chain = Chain(f"b{number}", self.rules(f"b{number}", later), hook, kind, priority_of(priority), policy)
-        return chain, f"type {kind} hook {hook} priority {priority};" + (f" policy {policy};" if policy else "")
+        chain = Chain(name, self.rules(name, later), Head(hook, kind, priority_of(priority), policy))
+        text = f"type {kind} hook {hook} priority {priority};" + (f" policy {policy.value};" if policy else "")
+        return WrittenChain(chain, text)
 
-    def called(self, hook, later):
+    def called(self, hook: str, later: Sequence[str]) -> WrittenChain:
         """A chain that chains of type nat on a hook may call, which translates."""
         name = f"{hook}-nat"
         self.words[name] = NAT_WORDS[hook]
-        return Chain(name, self.rules(name, later)), ""
+        return WrittenChain(Chain(name, self.rules(name, later)))
 
-    def table(self):
-        """The table, and its text."""
-        later, drawn = [], []
+    def drawn(self) -> WrittenTable:
+        """The table."""
+        later: list[str] = []
+        drawn: list[WrittenChain] = []
         for number in range(self.one(2, CHAINS), 0, -1):
-            drawn.append((Chain(f"c{number}", self.rules(f"c{number}", later)), ""))
+            drawn.append(WrittenChain(Chain(f"c{number}", self.rules(f"c{number}", later))))
             later.insert(0, f"c{number}")
-        heads = []
+        bases: list[Base | None] = []
         if self.is_translating:
             drawn += [self.called(hook, later) for hook in NAT_WORDS if hook != "output"]
-            heads = [(hook, "nat") for hook, percent in zip(NAT_WORDS, (40, 90, 5)) if self.chance(percent)]
-        heads += [None] * (2 + self.below(3) - len(heads))
-        drawn += [self.base_chain(number, later, *head or self.head()) for number, head in enumerate(heads, 1)]
+            bases += [Base(hook, "nat") for hook, percent in zip(NAT_WORDS, (40, 90, 5)) if self.chance(percent)]
+        bases += [None] * (2 + self.below(3) - len(bases))
+        drawn += [self.base_chain(number, later, base or self.base()) for number, base in enumerate(bases, 1)]
         self.dice.shuffle(drawn)
         family = self.one("ip", "inet")
-        texts = [chain_text(chain, head) for chain, head in drawn] + self.declared
+        texts = [chain_text(one) for one in drawn] + self.declared
         text = "\n".join([f"table {family} {self.name} {{", *texts, "}\n"])
-        return Table(family, self.name, [chain for chain, _ in drawn]), text
+        return WrittenTable(Table(family, self.name, [one.chain for one in drawn]), text)
 
 
-def shares(one, other):
-    """Whether two parts of one type share a value."""
-    if isinstance(one, Name):
-        return one.covers(other.name) or other.covers(one.name)
-    return one.low <= other.high and other.low <= one.high
+def chain_text(one: WrittenChain) -> str:
+    lines = [one.head] if one.head else []
+    lines += [" ".join(statement.text for statement in rule.statements) for rule in one.chain.rules]
+    return block(f"chain {one.chain.name}", lines)
 
 
-def chain_text(chain, head):
-    lines = [head] if head else []
-    lines += [" ".join(statement.text for statement in rule.statements) for rule in chain.rules]
-    return block(f"chain {chain.name}", lines)
-
-
-def block(head, lines):
+def block(head: str, lines: Sequence[str]) -> str:
     """A chain, a set or a map of these lines."""
     return "\n".join([f" {head} {{", *(f"  {line}" for line in lines), " }"])

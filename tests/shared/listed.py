@@ -55,7 +55,7 @@ class Test:
 
 
 TESTS = (
-    Test("rows", "rows/test-rows", Place.PROGRAMS, "whole runs, byte for byte; what is told of faults",
+    Test("rows", "rows/test-rows", Place.PROGRAMS, "whole runs; what is told of faults (--only TEXT: these)",
          Wanted.EACH, options=(Option("--rows", "crates/list_run/out/list_run"),)),
     Test("calls", "calls/test-calls", Place.PROGRAMS, "what each task reads, creates and prints, in order",
          Wanted.EACH),

@@ -1,27 +1,41 @@
-"""Reads rows, runs with what they have to give, and builds the captures that they speak of. tests/rows/README.md has their notation."""
+"""Reads rows, runs with what they have to give, and builds the captures that they speak of. tests/rows/README.md has
+their notation.
+
+It judges runs, so it stands neither on tools/toolbox nor on what the program writes.
+"""
+from __future__ import annotations
+
+import enum
 import re
 import struct
+from dataclasses import dataclass, replace
+from typing import Iterable, Iterator, Sequence, Union
 
 # Little endian, nanoseconds, version 2.4, LINKTYPE_LINUX_SLL2; of a capture that is read, and of OUT.
 IN_HEADER = struct.pack("<IHHIIII", 0xA1B23C4D, 2, 4, 0, 0, 65_535, 276)
 OUT_HEADER = struct.pack("<IHHIIII", 0xA1B23C4D, 2, 4, 0, 0, 262_144, 276)
+SECOND = 1_000_000_000
 INDEX = {"lan": 2, "wan": 3}
 BITS = {"F": 1, "S": 2, "R": 4, "P": 8, "A": 16, "U": 32}
-CAUSES = "link interface notip short version hlen length truncated checksum fragment transport rule route ttl noport full clash"
+CAUSES = """link interface notip short version hlen length truncated checksum fragment transport
+rule route ttl noport full clash"""
 TOTALS = ["records", "passed", "local", *(f"drop {cause}" for cause in CAUSES.split()), "begun", "live", "torn"]
+LAN = bytes((192, 168, 1))  # what leaves by `lan` begins so
 
 
 class Unreadable(Exception):
     """A line, or a word of it, that has no meaning."""
 
 
-def number(word, most):
+# ---- words
+
+def number(word: str, most: int) -> int:
     if not re.fullmatch("[0-9]+", word) or int(word) > most:
         raise Unreadable
     return int(word)
 
 
-def numbers(word, most):
+def numbers(word: str, most: int) -> range:
     """Those of `NUMBER` or `FIRST-LAST`."""
     first, dash, last = word.partition("-")
     found = range(number(first, most), number(last if dash else first, most) + 1)
@@ -30,211 +44,275 @@ def numbers(word, most):
     return found
 
 
-def hexadecimal(digits):
+def hexadecimal(digits: str) -> bytes:
     if not re.fullmatch("([0-9a-f]{2})*", digits):
         raise Unreadable
     return bytes.fromhex(digits)
 
 
+@dataclass(frozen=True)
+class Endpoint:
+    """An address and a port, 0 where there is none."""
+
+    address: bytes
+    port: int = 0
+
+
+@dataclass(frozen=True)
+class Endpoints:
+    """A source and a destination."""
+
+    source: Endpoint
+    destination: Endpoint
+
+
 class Words:
     """The words of a line from one on."""
 
-    def __init__(self, text):
+    def __init__(self, text: str) -> None:
         self.rest = text.split()
 
-    def next(self):
+    def next(self) -> str:
         if not self.rest:
             raise Unreadable
         return self.rest.pop(0)
 
-    def takes(self, word):
+    def takes(self, word: str) -> bool:
         """Whether that is the next word, which is taken then."""
         is_next = self.rest[:1] == [word]
         if is_next:
             self.next()
         return is_next
 
-    def end(self):
+    def end(self) -> None:
         if self.rest:
             raise Unreadable
 
-    def digits(self):
+    def digits(self) -> bytes:
         """The bytes of one or more words of hexadecimal digits."""
         data = hexadecimal(self.next())
         while self.rest and re.fullmatch("[0-9a-f]+", self.rest[0]):
             data += hexadecimal(self.next())
         return data
 
-    def interface(self):
+    def interface(self) -> int:
         """The index of `lan`, `wan` or an index."""
         word = self.next()
         return INDEX[word] if word in INDEX else number(word, 2**32 - 1)
 
-    def last(self):
+    def last(self) -> str:
         """The next word, which is the last."""
         word = self.next()
         self.end()
         return word
 
-    def endpoint(self):
+    def endpoint(self) -> Endpoint:
         word, _, port = self.next().partition(":")
         octets = word.split(".")
         if len(octets) != 4:
             raise Unreadable
-        return bytes(number(octet, 255) for octet in octets), number(port or "0", 65_535)
+        return Endpoint(bytes(number(octet, 255) for octet in octets), number(port or "0", 65_535))
 
-    def endpoints(self):
+    def endpoints(self) -> Endpoints:
         """`ENDPOINT > ENDPOINT`"""
         source = self.endpoint()
         if self.next() != ">":
             raise Unreadable
-        return source, self.endpoint()
+        return Endpoints(source, self.endpoint())
 
 
 # ---- packets
 
-def ones_sum(data):
+def ones_sum(data: bytes) -> int:
     """The ones' complement sum of the words (RFC 1071)."""
     data += b"\0" * (len(data) % 2)
-    total = sum(struct.unpack(f">{len(data) // 2}H", data))
+    total: int = sum(struct.unpack(f">{len(data) // 2}H", data))
     while total > 0xFFFF:
         total = (total & 0xFFFF) + (total >> 16)
     return total
 
 
-def checksum(data):
+def checksum(data: bytes) -> int:
     """What makes the sum of the words right."""
     return 0xFFFF - ones_sum(data)
 
 
-def with_checksum(data, at, covered=b""):
+def with_checksum(data: bytes, at: int, covered: bytes = b"") -> bytes:
     """The data with its checksum, which covers this too, at that place."""
-    return data[:at] + struct.pack(">H", checksum(covered + data)) + data[at + 2 :]
+    return data[:at] + struct.pack(">H", checksum(covered + data)) + data[at + 2:]
 
 
-def datagram(protocol, source, destination, load, ttl=64):
+def datagram(protocol: int, source: bytes, destination: bytes, load: bytes, ttl: int = 64) -> bytes:
     """An IPv4 datagram with a header of 20 bytes (RFC 791, section 3.1)."""
     header = struct.pack(">BBHHHBBH4s4s", 0x45, 0, 20 + len(load), 0, 0, ttl, protocol, 0, source, destination)
     return with_checksum(header, 10) + load
 
 
-class Packet:
-    """A packet: its payload, its endpoints, its TTL, what an ICMP error is about, and the data of a protocol that none other names."""
+class Carried(enum.Enum):
+    """What a packet carries, by its word."""
 
-    def __init__(self, payload, endpoints, ttl=64, about=None, kept=None, data=b""):
-        self.payload, self.endpoints, self.ttl, self.about, self.kept, self.data = payload, endpoints, ttl, about, kept, data
+    UDP = "udp"
+    TCP = "tcp"
+    ECHO_REQUEST = "echo-request"
+    ECHO_REPLY = "echo-reply"
+    ERROR = "error"
+    OTHER = "other"
+
+
+@dataclass(frozen=True)
+class Payload:
+    """What a packet carries, with its control bits, its type of ICMP or its protocol."""
+
+    carried: Carried
+    value: int = 0
 
     @staticmethod
-    def read(words):
-        """`PAYLOAD ENDPOINT > ENDPOINT [ttl NUMBER] [about PAYLOAD ENDPOINT > ENDPOINT [kept BYTES] | carries DIGITS ..]`"""
-        packet = Packet(payload(words.next()), words.endpoints())
+    def read(word: str) -> Payload:
+        """`udp`, `tcp:FLAGS`, `echo-request`, `echo-reply`, `error:TYPE` or `other:PROTOCOL`."""
+        kind, colon, value = word.partition(":")
+        if not colon and kind in ("udp", "echo-request", "echo-reply"):
+            return Payload(Carried(kind), 8 if kind == "echo-request" else 0)
+        if kind == "tcp" and colon and set(value) <= set(BITS):
+            return Payload(Carried.TCP, sum(BITS[letter] for letter in set(value)))
+        if kind in ("error", "other"):
+            return Payload(Carried(kind), number(value, 255))
+        raise Unreadable
+
+
+@dataclass(frozen=True)
+class Packet:
+    """A packet: its payload, its endpoints, its TTL, what an ICMP error is about and how many bytes of that it keeps,
+    and the data of a protocol that none other names."""
+
+    payload: Payload
+    endpoints: Endpoints
+    ttl: int = 64
+    about: Packet | None = None
+    kept: int | None = None
+    data: bytes = b""
+
+    @staticmethod
+    def read(words: Words) -> Packet:
+        """`PAYLOAD ENDPOINT > ENDPOINT [ttl NUMBER]`, then `[about PAYLOAD ENDPOINT > ENDPOINT [kept BYTES]]` or
+        `[carries DIGITS ..]`"""
+        packet = Packet(Payload.read(words.next()), words.endpoints())
         if words.takes("ttl"):
-            packet.ttl = number(words.next(), 255)
+            packet = replace(packet, ttl=number(words.next(), 255))
         if words.takes("about"):
-            packet.about = Packet(payload(words.next()), words.endpoints(), 1)
-            if words.takes("kept"):
-                packet.kept = number(words.next(), 65_535)
-        elif packet.payload[0] == "other" and words.takes("carries"):
-            packet.data = words.digits()
+            about = Packet(Payload.read(words.next()), words.endpoints(), 1)
+            kept = number(words.next(), 65_535) if words.takes("kept") else None
+            return replace(packet, about=about, kept=kept)
+        if packet.payload.carried is Carried.OTHER and words.takes("carries"):
+            return replace(packet, data=words.digits())
         return packet
 
-    def of_length(self, length):
+    @property
+    def destination(self) -> bytes:
+        return self.endpoints.destination.address
+
+    def of_length(self, length: int) -> Packet:
         """The packet with so much data: what it has, and zeros behind it."""
         return Packet(self.payload, self.endpoints, self.ttl, data=self.data[:length].ljust(length, b"\0"))
 
-    def forwarded(self, endpoints, about):
+    def forwarded(self, endpoints: Endpoints | None, about: Endpoints | None) -> Packet:
         """As it leaves, with new endpoints where there are any."""
         inner = self.about
         if inner and about:
             inner = Packet(inner.payload, about, inner.ttl)
-        return Packet(self.payload, endpoints or self.endpoints, max(self.ttl - 1, 0), inner, self.kept, self.data)
+        return replace(self, endpoints=endpoints or self.endpoints, ttl=max(self.ttl - 1, 0), about=inner)
 
-    def bytes(self, behind=b""):
+    def octets(self, behind: bytes = b"") -> bytes:
         """Its bytes with right checksums. A protocol without ports or an identifier carries what is `behind`."""
         behind = self.data or behind
         if self.about:
-            behind = self.about.bytes(b"\0" * 8)[: self.kept]
-        (source, source_port), (destination, destination_port) = self.endpoints
-        kind, value = self.payload
-        ports = struct.pack(">HH", source_port, destination_port)
-        if kind == "udp":
-            pseudo = source + destination + struct.pack(">BBH", 0, 17, 8)
+            behind = self.about.octets(b"\0" * 8)[:self.kept]
+        source, destination = self.endpoints.source, self.endpoints.destination
+        protocol, load = self.load(behind)
+        return datagram(protocol, source.address, destination.address, load, self.ttl)
+
+    def load(self, behind: bytes) -> tuple[int, bytes]:
+        """The protocol, and what stands behind the header."""
+        source, destination = self.endpoints.source, self.endpoints.destination
+        carried, value = self.payload.carried, self.payload.value
+        ports = struct.pack(">HH", source.port, destination.port)
+        if carried is Carried.UDP:
+            pseudo = source.address + destination.address + struct.pack(">BBH", 0, 17, 8)
             load = with_checksum(ports + struct.pack(">HH", 8, 0), 6, pseudo)
             # 0 would mean that there is no checksum (RFC 768).
-            return datagram(17, source, destination, load[:6] + (load[6:] if any(load[6:]) else b"\xff\xff"), self.ttl)
-        if kind == "tcp":
-            pseudo = source + destination + struct.pack(">BBH", 0, 6, 20)
+            return 17, load[:6] + (load[6:] if any(load[6:]) else b"\xff\xff")
+        if carried is Carried.TCP:
+            pseudo = source.address + destination.address + struct.pack(">BBH", 0, 6, 20)
             load = ports + struct.pack(">IIBBHHH", 1, 0, 0x50, value, 1000, 0, 0)
-            return datagram(6, source, destination, with_checksum(load, 16, pseudo), self.ttl)
-        if kind == "other":
-            return datagram(value, source, destination, behind, self.ttl)
-        if kind == "error":
-            load = struct.pack(">BBHI", value, 0, 0, 0) + behind
-        else:
-            # The identifier is the requesting endpoint's port.
-            identifier = source_port if kind == "echo-request" else destination_port
-            load = struct.pack(">BBHHH", value, 0, 0, identifier, 1)
-        return datagram(1, source, destination, with_checksum(load, 2), self.ttl)
+            return 6, with_checksum(load, 16, pseudo)
+        if carried is Carried.OTHER:
+            return value, behind
+        if carried is Carried.ERROR:
+            return 1, with_checksum(struct.pack(">BBHI", value, 0, 0, 0) + behind, 2)
+        # The identifier is the requesting endpoint's port.
+        identifier = source.port if carried is Carried.ECHO_REQUEST else destination.port
+        return 1, with_checksum(struct.pack(">BBHHH", value, 0, 0, identifier, 1), 2)
 
 
+@dataclass(frozen=True)
 class Bytes:
     """A packet by its bytes, which may be no packet."""
 
-    def __init__(self, data):
-        self.data = data
-        self.endpoints = (data[12:16], 0), (data[16:20], 0)
+    data: bytes
 
-    def forwarded(self, _endpoints, _about):
+    @property
+    def destination(self) -> bytes:
+        return self.data[16:20]
+
+    def forwarded(self, _endpoints: Endpoints | None, _about: Endpoints | None) -> Bytes:
         """As it leaves: with another TTL and checksum, and without what is behind its end."""
         header, end = self.data[0] % 16 * 4, int.from_bytes(self.data[2:4], "big")
         lowered = self.data[:8] + bytes([self.data[8] - 1, self.data[9], 0, 0]) + self.data[12:header]
         return Bytes(with_checksum(lowered, 10) + self.data[header:end])
 
-    def bytes(self):
+    def octets(self) -> bytes:
         return self.data
-
-
-def payload(word):
-    """`udp`, `tcp:FLAGS`, `echo-request`, `echo-reply`, `error:TYPE` or `other:PROTOCOL`, with its number."""
-    kind, colon, value = word.partition(":")
-    if not colon and kind in ("udp", "echo-request", "echo-reply"):
-        return kind, 8 if kind == "echo-request" else 0
-    if kind == "tcp" and colon and set(value) <= set(BITS):
-        return kind, sum(BITS[letter] for letter in set(value))
-    if kind in ("error", "other"):
-        return kind, number(value, 255)
-    raise Unreadable
 
 
 # ---- records
 
+@dataclass(frozen=True)
 class Record:
-    """A record: seconds, nanoseconds, the interface that it came by, its packet, if it is one, and what stands behind that."""
+    """A record: seconds, nanoseconds, the interface that it came by, its packet, if it is one, and what stands behind
+    that."""
 
-    def __init__(self, when, interface, packet, padding=b""):
-        self.seconds, self.nanoseconds = when
-        self.interface, self.packet, self.padding = interface, packet, padding
+    seconds: int
+    nanoseconds: int
+    interface: int
+    packet: Union[Packet, Bytes, None]
+    padding: bytes = b""
 
-    def behind_header(self, link, data):
+    @staticmethod
+    def at(when: int, interface: int, packet: Union[Packet, Bytes]) -> Record:
+        """A record at so many nanoseconds."""
+        return Record(*divmod(when, SECOND), interface, packet)
+
+    def behind_header(self, link: bytes, data: bytes) -> bytes:
         return struct.pack("<IIII", self.seconds, self.nanoseconds, 20 + len(data), 20 + len(data)) + link + data
 
-    def bytes(self):
+    def octets(self) -> bytes:
         """As it was captured."""
         # (IPv6 is no packet of the box's.)
-        protocol, data = (0x0800, self.packet.bytes()) if self.packet else (0x86DD, b"")
+        protocol, data = (0x0800, self.packet.octets()) if self.packet else (0x86DD, b"")
         link = struct.pack(">HHIHBB8s", protocol, 0, self.interface, 1, 0, 6, bytes.fromhex("0200000000010000"))
         return self.behind_header(link, data + self.padding)
 
-    def leaves(self, endpoints, about, interface):
+    def leaves(self, endpoints: Endpoints | None = None, about: Endpoints | None = None,
+               by: int | None = None) -> bytes:
         """As it leaves: by this interface, or else by `lan` for 192.168.1.0/24 and by `wan` for all others."""
+        if self.packet is None:
+            raise Unreadable
         packet = self.packet.forwarded(endpoints, about)
-        destination = packet.endpoints[1][0]
-        if interface is None:
-            interface = INDEX["lan" if destination[:3] == bytes((192, 168, 1)) else "wan"]
-        return self.behind_header(struct.pack(">HHIHBB8s", 0x0800, 0, interface, 1, 4, 0, b""), packet.bytes())
+        if by is None:
+            by = INDEX["lan" if packet.destination[:3] == LAN else "wan"]
+        return self.behind_header(struct.pack(">HHIHBB8s", 0x0800, 0, by, 1, 4, 0, b""), packet.octets())
 
 
-def moment(word):
+def moment(word: str) -> tuple[int, int]:
     """The seconds and nanoseconds of a time: seconds, or seconds, a dot and nine digits."""
     seconds, dot, rest = word.partition(".")
     if dot and len(rest) != 9:
@@ -242,49 +320,78 @@ def moment(word):
     return number(seconds, 2**32 - 1), number(rest or "0", 2**32 - 1)
 
 
-def come(words):
-    """The records of `TIME INTERFACE none`, `TIME INTERFACE bytes DIGITS ..` or `TIME INTERFACE PACKET [long LENGTHS] [padded DIGITS]`."""
-    when, interface = moment(words.next()), words.interface()
-    padding = b""
+def packets(words: Words) -> list[Union[Packet, Bytes, None]]:
+    """Those of `none`, `bytes DIGITS ..` or `PACKET [long LENGTHS]`."""
     if words.takes("none"):
-        packets = [None]
-    elif words.takes("bytes"):
-        packets = [Bytes(words.digits())]
-    else:
-        packet = Packet.read(words)
-        packets = [packet]
-        if packet.data and words.takes("long"):
-            packets = [packet.of_length(length) for length in numbers(words.next(), 65_515)]
-        if words.takes("padded"):
-            padding = words.digits()
+        return [None]
+    if words.takes("bytes"):
+        return [Bytes(words.digits())]
+    packet = Packet.read(words)
+    if packet.data and words.takes("long"):
+        return [packet.of_length(length) for length in numbers(words.next(), 65_515)]
+    return [packet]
+
+
+def come(words: Words) -> list[Record]:
+    """The records of `TIME INTERFACE PACKETS [padded DIGITS]`; what has no packet or only bytes isn't padded."""
+    when, interface = moment(words.next()), words.interface()
+    found = packets(words)
+    is_padded = isinstance(found[0], Packet) and words.takes("padded")
+    padding = words.digits() if is_padded else b""
     words.end()
-    return [Record(when, interface, packet, padding) for packet in packets]
+    return [Record(*when, interface, packet, padding) for packet in found]
 
 
-def came(text):
+def came(text: str) -> bytes:
     """The record of `TIME INTERFACE PACKET`."""
-    return come(Words(text))[0].bytes()
+    return come(Words(text))[0].octets()
 
 
 # ---- rows
 
+@dataclass(frozen=True)
+class Output:
+    """A record that leaves, by its index, and what is other than it came."""
+
+    index: int
+    endpoints: Endpoints | None
+    about: Endpoints | None
+    by: int | None
+
+
+@dataclass(frozen=True)
+class Change:
+    """Bytes of IN that are put in place of others."""
+
+    offset: int
+    data: bytes
+
+
 class Row:
     """A run and what it has to give."""
 
-    def __init__(self, name):
+    def __init__(self, name: str) -> None:
         self.name, self.box = name, "box.txt"
-        self.header, self.records, self.captured = None, [], b""
-        self.outputs, self.written, self.leaving = [], b"", []
-        self.begin()
-
-    def begin(self):
-        self.file, self.rulesets, self.trace = None, [], False
-        self.pace = self.reads = None
+        self.header: bytes | None = None
+        self.records: list[Record] = []
+        self.captured = b""
+        self.outputs: list[Output] = []
+        self.written = b""
+        self.leaving: list[bytes] = []
+        # What no row has of the one before it.
+        self.file: str | None = None
+        self.rulesets: list[str] = []
+        self.trace = False
+        self.pace: int | None = None
+        self.reads: int | None = None
+        self.size: int | None = None
         self.status, self.ending = "done", "status"
-        self.changes, self.size = [], None
-        self.lines, self.totals, self.given = "", {}, set()
+        self.changes: list[Change] = []
+        self.lines = ""
+        self.totals: dict[str, int] = {}
+        self.given: set[str] = set()
 
-    def follow(self, word, name):
+    def follow(self, word: str, name: str) -> Row:
         """A row with the same records, and with the same output where the word is `again`."""
         row = Row(name)
         row.box, row.header, row.captured, row.leaving = self.box, self.header, self.captured, list(self.leaving)
@@ -293,33 +400,41 @@ class Row:
             row.outputs, row.written = list(self.outputs), self.written
         return row
 
-    def take(self, line):
+    def take(self, line: str) -> None:
         """Takes a line, or raises `Unreadable`."""
         word, _, rest = line.partition(" ")
+        if word in ("nft", "in", "out", "put"):
+            self.take_capture(word, rest)
+        elif word in ("line", "outcome"):
+            told = f"trace {len(self.records)} outcome {Words(rest).last()}" if word == "outcome" else rest
+            self.lines += told + "\n"
+        elif word in ("leaves", "captured", "written"):
+            self.take_bytes(word, hexadecimal(rest))
+        elif word == "passes":
+            self.pass_on(rest.split())
+        elif line.strip():
+            self.take_setting(word, rest, line)
+
+    def take_capture(self, word: str, rest: str) -> None:
+        """Takes a ruleset, records, an output or a change."""
         if word == "nft":
             self.rulesets.append(rest)
         elif word == "in":
             self.records += come(Words(rest))
         elif word == "out":
             self.take_output(Words(rest))
-        elif word == "line":
-            self.lines += rest + "\n"
-        elif word == "outcome":
-            self.lines += f"trace {len(self.records)} outcome {Words(rest).last()}\n"
-        elif word == "put":
+        else:
             self.take_change(Words(rest))
-        elif word == "leaves":
-            self.leaving.append(hexadecimal(rest))
-        elif word == "captured":
-            self.captured += hexadecimal(rest)
-        elif word == "written":
-            self.written += hexadecimal(rest)
-        elif word == "passes":
-            self.pass_on(rest.split())
-        elif line.strip():
-            self.take_setting(word, rest, line)
 
-    def take_output(self, words):
+    def take_bytes(self, word: str, data: bytes) -> None:
+        if word == "leaves":
+            self.leaving.append(data)
+        elif word == "captured":
+            self.captured += data
+        else:
+            self.written += data
+
+    def take_output(self, words: Words) -> None:
         """`INDEXES [ENDPOINT > ENDPOINT [about ENDPOINT > ENDPOINT]] [by INTERFACE]`"""
         indexes = numbers(words.next(), len(self.records) - 1)
         endpoints = words.endpoints() if words.rest and words.rest[0] != "by" else None
@@ -330,23 +445,28 @@ class Row:
             packet = self.records[index].packet
             if not packet or endpoints and isinstance(packet, Bytes):
                 raise Unreadable
-            self.outputs.append((index, endpoints, about, interface))
+            self.outputs.append(Output(index, endpoints, about, interface))
 
-    def take_change(self, words):
+    def take_change(self, words: Words) -> None:
         """`OFFSET DIGITS`"""
-        self.changes.append((number(words.next(), 2**31), hexadecimal(words.last())))
+        self.changes.append(Change(number(words.next(), 2**31), hexadecimal(words.last())))
 
-    def pass_on(self, words):
+    def pass_on(self, words: Iterable[str]) -> None:
         for word in words:
             self.written += self.leaving[number(word, len(self.leaving) - 1)]
 
-    def take_setting(self, word, rest, line):
+    def take_setting(self, word: str, rest: str, line: str) -> None:
         """Takes a setting, the status or a total: each stands once."""
         if word in ("status", "broken", "refused"):
             self.once("status")
             self.status, self.ending = rest, word
-        elif word in ("rules", "box", "trace", "header", "size", "pace", "reads"):
-            self.set(word, rest)
+        elif word == "header":
+            header = hexadecimal(rest)
+            self.once(word)
+            self.header = header
+        elif word in ("rules", "box", "trace", "size", "pace", "reads"):
+            self.once(word)
+            self.set(word, rest.split())
         else:
             name, _, value = line.rpartition(" ")
             if name not in TOTALS:
@@ -355,46 +475,44 @@ class Row:
             self.once(name)
             self.totals[name] = count
 
-    def set(self, word, rest):
-        """Sets what the first word names."""
-        if word == "header":
-            header = hexadecimal(rest)
-            self.once(word)
-            self.header = header
-            return
-        self.once(word)
-        words = rest.split()
-        if len(words) != (0 if word == "trace" else 1):
+    def set(self, word: str, values: Sequence[str]) -> None:
+        """Sets what the word names."""
+        if len(values) != (0 if word == "trace" else 1):
             raise Unreadable
         if word == "trace":
             self.trace = True
         elif word == "rules":
-            self.file = words[0]
+            self.file = values[0]
         elif word == "box":
-            self.box = words[0]
+            self.box = values[0]
+        elif word == "size":
+            self.size = number(values[0], 2**31)
+        elif word == "pace":
+            self.pace = number(values[0], 2**31)
         else:
-            setattr(self, word, number(words[0], 2**31))
+            self.reads = number(values[0], 2**31)
 
-    def once(self, name):
+    def once(self, name: str) -> None:
         if name in self.given:
             raise Unreadable
         self.given.add(name)
 
-    def capture(self, most=None):
+    def capture(self, most: int | None = None) -> bytes:
         """IN, with so many records at most."""
         header = IN_HEADER if self.header is None else self.header
-        whole = header + b"".join(record.bytes() for record in self.records[:most]) + self.captured
-        for offset, data in self.changes:
-            whole = whole[:offset] + data + whole[offset + len(data) :]
-        return whole if self.size is None else whole[: self.size].ljust(self.size, b"x")
+        whole = header + b"".join(record.octets() for record in self.records[:most]) + self.captured
+        for change in self.changes:
+            whole = whole[:change.offset] + change.data + whole[change.offset + len(change.data):]
+        return whole if self.size is None else whole[:self.size].ljust(self.size, b"x")
 
-    def sent(self):
+    def sent(self) -> bytes:
         """What OUT has to hold."""
         if self.ending == "refused":
             return b""
-        return OUT_HEADER + b"".join(self.records[index].leaves(*ends) for index, *ends in self.outputs) + self.written
+        left = (self.records[one.index].leaves(one.endpoints, one.about, one.by) for one in self.outputs)
+        return OUT_HEADER + b"".join(left) + self.written
 
-    def report(self):
+    def report(self) -> str:
         """The report that has to be printed."""
         if self.ending != "status":
             return self.lines
@@ -402,24 +520,26 @@ class Row:
         return self.lines + "".join(f"{name} {counts.get(name, 0)}\n" for name in TOTALS)
 
 
-def rows(path, lost=None):
-    """The rows of a file. Lines that can't be read are added to `lost`, or end the reading where there is no such list."""
-    row = None
+def rows(path: str, lost: list[str] | None = None) -> Iterator[Row]:
+    """The rows of a file. Lines that can't be read are added to `lost`, or end the reading where there is no such
+    list."""
+    row: Row | None = None
     with open(path, encoding="utf-8") as file:
-        for line in file.read().split("\n"):
-            word, _, name = line.partition(" ")
-            if word in ("row", "again", "anew"):
-                if row:
-                    yield row
-                row = row.follow(word, name) if row and word != "row" else Row(name)
-            elif line and not line.startswith("#"):
-                try:
-                    if not row:
-                        raise Unreadable
-                    row.take(line)
-                except Unreadable:
-                    if lost is None:
-                        raise SystemExit(f"{path}: can't be read: {line}") from None
-                    lost.append(line)
+        lines = file.read().split("\n")
+    for line in lines:
+        word, _, name = line.partition(" ")
+        if word in ("row", "again", "anew"):
+            if row:
+                yield row
+            row = row.follow(word, name) if row and word != "row" else Row(name)
+        elif line and not line.startswith("#"):
+            try:
+                if not row:
+                    raise Unreadable
+                row.take(line)
+            except Unreadable:
+                if lost is None:
+                    raise SystemExit(f"{path}: can't be read: {line}") from None
+                lost.append(line)
     if row:
         yield row
