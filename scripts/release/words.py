@@ -7,7 +7,7 @@ from pathlib import Path
 
 PROGRAM_WORDS = ("check", "explain", "run")
 # What a command reads of the folders of its modules, beside these.
-DATA = (".css", ".js", ".awk")
+DATA = (".css", ".html", ".js", ".awk", ".json")
 
 
 @dataclass(frozen=True)

@@ -4,25 +4,16 @@ from __future__ import annotations
 import array
 import fcntl
 import os
-import pty
 import select
 import shutil
 import subprocess
 import termios
 import time
-import tty
 from dataclasses import dataclass
 from typing import Callable, Mapping, Sequence
 
 from files import contents, store
-
-
-@dataclass(frozen=True)
-class Terminal:
-    """Both ends of a terminal."""
-
-    near: int
-    far: int
+from terminals import Ends, all_of, pipe, terminal
 
 
 @dataclass(frozen=True)
@@ -35,29 +26,13 @@ class Given:
     notes: str
 
 
-def all_of(reader: int) -> str:
-    """The text that is written to a pipe or a terminal until it is closed."""
-    pieces = []
-    while True:
-        try:
-            piece = os.read(reader, 65_536)
-        except OSError:  # The last end of a terminal that is written to is closed.
-            break
-        if not piece:
-            break
-        pieces.append(piece)
-    os.close(reader)
-    return b"".join(pieces).decode("utf-8", "replace")
-
-
-def open_terminal() -> Terminal:
-    """A terminal that passes bytes on as they are, and that ends for its reader where nothing waits."""
-    near, far = pty.openpty()
-    tty.setraw(far)
-    setting = termios.tcgetattr(far)
+def yielding() -> Ends:
+    """A terminal that ends for its reader where nothing waits."""
+    ends = terminal()
+    setting = termios.tcgetattr(ends.far)
     setting[6][termios.VMIN] = setting[6][termios.VTIME] = 0
-    termios.tcsetattr(far, termios.TCSANOW, setting)
-    return Terminal(near, far)
+    termios.tcsetattr(ends.far, termios.TCSANOW, setting)
+    return ends
 
 
 def waiting(far: int) -> int:
@@ -73,7 +48,7 @@ class Sandbox:
     def __init__(self, program: str, shim: str, top: str) -> None:
         self.program, self.shim = program, shim
         self.folder, self.beside = f"{top}/files", f"{top}/beside"
-        self.terminal: Terminal | None = None
+        self.terminal: Ends | None = None
 
     def path(self, name: str) -> str:
         return f"{self.beside}/printed" if name == "/dev/stdout" else f"{self.folder}/{name}"
@@ -98,7 +73,7 @@ class Sandbox:
 
     def join_to_terminal(self, names: Sequence[str]) -> None:
         """Makes these paths one terminal, which has for its reader what IN had, if that is among them."""
-        self.terminal = open_terminal()
+        self.terminal = yielding()
         data = contents(self.path("in")) if "in" in names else b""
         os.write(self.terminal.near, data)
         end = time.monotonic() + 10
@@ -125,18 +100,14 @@ class Sandbox:
         notes = f"{self.beside}/notes"
         store(notes, b"")
         environment = {"LD_PRELOAD": self.shim, "NOTE_CALLS": notes, **(setting or {})}
-        if is_on_terminal:
-            terminal = open_terminal()
-            reader, writer = terminal.near, terminal.far
-        else:
-            reader, writer = os.pipe()
+        ends = yielding() if is_on_terminal else pipe()
         with open(self.path("/dev/stdout"), "r+b") as output:
             # The program calls itself what it is called by.
             child = subprocess.Popen(
                 [b"nftrun", *(os.fsencode(word).replace(b"<FF>", b"\xff") for word in words)], executable=self.program,
-                cwd=self.folder, env=environment, stdin=subprocess.DEVNULL, stdout=output, stderr=writer)
-        os.close(writer)
-        errors = all_of(reader)
+                cwd=self.folder, env=environment, stdin=subprocess.DEVNULL, stdout=output, stderr=ends.far)
+        os.close(ends.far)
+        errors = all_of(ends.near).decode("utf-8", "replace")
         status = child.wait()
         printed = contents(self.path("/dev/stdout")).decode("utf-8", "replace")
         return Given(status, printed, errors, contents(notes).decode())

@@ -69,6 +69,7 @@ TESTS = (
     Test("progress", "test-progress", Place.PROGRAMS, "the progress that a terminal shows"),
     Test("terminal", "test-terminal", Place.PROGRAMS, "colours and escapes on a terminal"),
     Test("install", "install/test-install", Place.PROGRAMS, "installing, README's ten minutes, packing, removing"),
+    Test("page", "page/test-page", Place.PROGRAMS, "the page in Chromium, where that is (--look RULES BOX IN)"),
     Test("python", "test-python", Place.PROGRAMS, "types, style and reach of the Python; unit tests, tools",
          Wanted.WHERE_BUILT),
     Test("unit", "unit/run-unit", Place.WITHIN, "functions of the tools and tests (-k NAME: one)", Wanted.NONE),

@@ -7,7 +7,6 @@ from __future__ import annotations
 
 import contextlib
 import gzip
-import importlib
 import io
 import os
 import pathlib
@@ -24,6 +23,9 @@ from typing import Callable, Iterator, Sequence
 from unittest import mock
 
 from blocks import Writer
+from linux.frames import nothing
+from linux.question import Heard, Question
+from linux.seen import Fate, Place, Told
 from support import TOP
 from toolbox import commands
 from toolbox.captures import LINUX_SLL2, SENT_BY_US, header_of, packet_at, records, sll2_header
@@ -306,14 +308,10 @@ def run_of_all(_program: str, rules: str, _box: str, capture: str, leaving: str,
     return False
 
 
-def sent_nothing(beside: object) -> None:
+def sent_nothing(question: Question) -> Heard:
     """Stands in for the kernel's part of beside-linux: it tells that nothing was sent."""
-    frames, kernel = (importlib.import_module(f"linux.{name}") for name in ("frames", "kernel"))
-    told = kernel.Told(frames.nothing("it isn't tried"), "unsent", "", None, [], [], [])
-    values = {"with_ipv6": False, "told": [told] * len(getattr(beside, "records")), "others": [], "own_packets": 0,
-              "lost": False}
-    for name, value in values.items():
-        setattr(beside, name, value)
+    told = Told(nothing("it isn't tried"), Fate.UNSENT, Place.NOWHERE, None, [], [], [])
+    return Heard([told] * len(question.records), [], 0, False, {}, False)
 
 
 # What is tried
@@ -441,7 +439,7 @@ class Trials:
         given = pathlib.Path(paths[call.reads]).read_bytes() if call.reads else b""
         with contextlib.ExitStack() as patched:
             patched.enter_context(mock.patch("linux.beside.check_needs", lambda: None))
-            patched.enter_context(mock.patch("linux.beside.Beside.replay_all", sent_nothing))
+            patched.enter_context(mock.patch("linux.beside.heard_from_kernel", sent_nothing))
             if not has_program:
                 patched.enter_context(mock.patch("toolbox.program.run", run_of_all))
             ended = self.commands.run(call.tool, words, given)

@@ -11,9 +11,10 @@ from fit.command import fit
 from fit.expressions import ExpressionReader
 from fit.network import Network
 from fit.profile import takes
-from fit.scanner import Refused, Source, Token, scan, shown, slice_of, spelled
+from fit.scanner import Refused, scan, shown, slice_of, spelled
 from fit.statements import RuleReader
 from toolbox import rulemap
+from toolbox.lexer import Source, Token
 
 
 def tokens(text: str) -> list[Token]:

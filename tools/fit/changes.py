@@ -4,7 +4,9 @@ from __future__ import annotations
 from dataclasses import dataclass
 from typing import Iterator
 
-from .scanner import Token, place
+from toolbox.lexer import Token
+
+from .scanner import place
 
 GRADES = ("same", "outcome", "guess", "refused")
 

@@ -6,10 +6,11 @@ import os
 from typing import TYPE_CHECKING, Mapping, Sequence, TypeVar
 
 import toolbox.commands
+from toolbox.lexer import Source, Token
 
 from .dynamic import BOUNDS
 from .expressions import ExpressionReader, as_number
-from .scanner import END, Refused, Source, Token, moved, refuse, scan, shown, slice_of
+from .scanner import END, Refused, moved, refuse, scan, shown, slice_of
 from .tree import Bound, Chain, Head, NamedObject, NotFitted, Rule, Set, Table
 
 if TYPE_CHECKING:

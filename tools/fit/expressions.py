@@ -3,8 +3,10 @@ from __future__ import annotations
 
 from typing import Sequence
 
+from toolbox.lexer import Token
+
 from .facts import FIELDS, META, TCP_FLAGS, VERDICTS
-from .scanner import END, Token
+from .scanner import END
 from .tree import (
     Anything,
     Calculation,

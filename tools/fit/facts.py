@@ -4,92 +4,24 @@ from __future__ import annotations
 from dataclasses import dataclass, field
 from typing import Mapping
 
-# What nftrun's language has (docs/SPEC.md)
+from toolbox.language import NFT
 
-PROTOCOLS = {"icmp": 1, "igmp": 2, "tcp": 6, "udp": 17, "gre": 47, "esp": 50, "ah": 51, "ipv6-icmp": 58, "sctp": 132}
-SERVICES = {"ssh": 22, "smtp": 25, "domain": 53, "http": 80, "ntp": 123, "https": 443}
-TCP_FLAGS = {"fin": 1, "syn": 2, "rst": 4, "psh": 8, "ack": 16, "urg": 32, "ecn": 64, "cwr": 128}
-ICMP_TYPES = {
-    "echo-reply": 0,
-    "destination-unreachable": 3,
-    "source-quench": 4,
-    "redirect": 5,
-    "echo-request": 8,
-    "router-advertisement": 9,
-    "router-solicitation": 10,
-    "time-exceeded": 11,
-    "parameter-problem": 12,
-    "timestamp-request": 13,
-    "timestamp-reply": 14,
-    "info-request": 15,
-    "info-reply": 16,
-    "address-mask-request": 17,
-    "address-mask-reply": 18,
-}
+# What nftrun's language has
+
+PROTOCOLS, SERVICES = NFT.types["inet_proto"].words, NFT.types["inet_service"].words
+TCP_FLAGS = NFT.types["tcp_flag"].words
 # the words of each type, and its width in bits
-WORDS: dict[str, Mapping[str, int]] = {
-    "ipv4_addr": {},
-    "inet_proto": PROTOCOLS,
-    "inet_service": SERVICES,
-    "tcp_flag": TCP_FLAGS,
-    "icmp_type": ICMP_TYPES,
-    "ifname": {},
-    "iface_index": {},
-    "mark": {},
-    "nf_proto": {"ipv4": 2, "ipv6": 10},
-    "ct_state": {"invalid": 1, "established": 2, "related": 4, "new": 8, "untracked": 64},
-    "ct_dir": {"original": 0, "reply": 1},
-    "ct_status": {"seen-reply": 2, "snat": 16, "dnat": 32},
-}
-WIDTHS = {
-    "ipv4_addr": 32,
-    "inet_proto": 8,
-    "inet_service": 16,
-    "tcp_flag": 8,
-    "icmp_type": 8,
-    "ifname": 128,
-    "iface_index": 32,
-    "mark": 32,
-    "nf_proto": 8,
-    "ct_state": 32,
-    "ct_dir": 8,
-    "ct_status": 32,
-}
+WORDS = {name: one.words for name, one in NFT.types.items()}
+WIDTHS = {name: one.width for name, one in NFT.types.items()}
 # the type of each selector that nftrun reads; one without a name is its width
-TYPES = {
-    "ip saddr": "ipv4_addr",
-    "ip daddr": "ipv4_addr",
-    "ip protocol": "inet_proto",
-    "meta l4proto": "inet_proto",
-    "ip ttl": "8",
-    "ip length": "16",
-    "meta length": "32",
-    "tcp sport": "inet_service",
-    "tcp dport": "inet_service",
-    "udp sport": "inet_service",
-    "udp dport": "inet_service",
-    "th sport": "inet_service",
-    "th dport": "inet_service",
-    "tcp flags": "tcp_flag",
-    "icmp type": "icmp_type",
-    "meta iifname": "ifname",
-    "meta oifname": "ifname",
-    "meta iif": "iface_index",
-    "meta oif": "iface_index",
-    "meta mark": "mark",
-    "ct mark": "mark",
-    "meta nfproto": "nf_proto",
-    "ct state": "ct_state",
-    "ct direction": "ct_dir",
-    "ct status": "ct_status",
-}
-BITS = ("tcp_flag", "ct_state", "ct_status")
-SHORT = ("iifname", "oifname", "iif", "oif")  # written without `meta`
-PRIORITIES = {"raw": -300, "mangle": -150, "dstnat": -100, "filter": 0, "security": 50, "srcnat": 100}
-CHAIN_HOOKS = ("prerouting", "input", "forward", "output", "postrouting")
-VERDICTS = ("accept", "drop", "continue", "return", "jump", "goto")
+TYPES = {name: one.type_name for name, one in NFT.selectors.items()}
+SHORT = NFT.without_meta
+PRIORITIES = NFT.priorities
+CHAIN_HOOKS = NFT.hooks
+VERDICTS = NFT.verdicts
+LONGEST_KEY = NFT.longest_key
+BITS = ("tcp_flag", "ct_state", "ct_status")  # types whose values are tested bit by bit
 MARKS = ("meta mark", "ct mark")
-LONGEST_KEY = 128
 
 # What nft(8) has: the fields of each header. Of what isn't here nothing may be assumed.
 

@@ -30,10 +30,11 @@ from .tree import (
 )
 
 if TYPE_CHECKING:
+    from toolbox.lexer import Token
+
     from .assumptions import Assumptions
     from .commands import Commands
     from .network import Network
-    from .scanner import Token
 
 
 @dataclass(frozen=True)

@@ -1,54 +1,15 @@
-"""The tokens of nft(8), with their places."""
+"""The tokens of a ruleset as fit reads them: refused where nft(8) knows none, and as text again."""
 from __future__ import annotations
 
 import re
-from dataclasses import dataclass, replace
-from ipaddress import IPv6Address
+from dataclasses import replace
 from typing import Sequence
 
-
-@dataclass(frozen=True)
-class Source:
-    """A file, or what stands for one."""
-
-    name: str
-    text: str
-
-
-@dataclass(frozen=True)
-class Token:
-    """`start` and `end` are places in the text of `source`; negative where it doesn't stand there."""
-
-    kind: str
-    text: str
-    source: Source
-    line: int
-    start: int
-    end: int
-
+from toolbox.lexer import UNKNOWN, Source, Token, tokens_in
 
 NOWHERE = Source("", "")
 END = Token("end", "", NOWHERE, 0, 0, 0)
-
-WORD = r"[A-Za-z_][A-Za-z0-9_./-]*"
-DURATION = r"(?:[0-9]+w)?(?:[0-9]+d)?(?:[0-9]+h)?(?:[0-9]+m(?!s))?(?:[0-9]+s)?(?:[0-9]+ms)?"
-SCANNER = re.compile(
-    rf"""(?P<blank>[ \t\r]+|\\\r?\n|\#[^\n]*)
-      | (?P<newline>\n)
-      | (?P<string>"[^"\n]*"\*?)
-      | (?P<mac>(?:[0-9A-Fa-f]{{1,2}}:){{5}}[0-9A-Fa-f]{{1,2}}(?![0-9A-Fa-f:]))
-      | (?P<six>(?:[0-9A-Fa-f]{{0,4}}:){{2,7}}(?:[0-9]+(?:\.[0-9]+){{3}}|[0-9A-Fa-f]{{0,4}}))
-      | (?P<address>[0-9]+(?:\.[0-9]+){{3}}(?![0-9.]))
-      | (?P<time>(?=(?:[0-9]+(?:w|d|h|m|s|ms))+(?![A-Za-z0-9_])){DURATION})
-      | (?P<number>0x[0-9A-Fa-f]+|[0-9]+)
-      | (?P<wild>{WORD}\*)
-      | (?P<word>{WORD})
-      | (?P<variable>\$[A-Za-z_][A-Za-z0-9_./-]*)
-      | (?P<mark>==|!=|<=|>=|<<|>>|[{{}}(),;:./\-+=@&|<>!^*\[\]])""",
-    re.VERBOSE,
-)
 COMMENT = re.compile(r"[ \t]*;?[ \t]*(#(?! handle [0-9]+\s*$)[^\n]*)", re.MULTILINE)
-NOT_SIX = re.compile(rf"(?P<number>0x[0-9A-Fa-f]+|[0-9]+)|(?P<word>{WORD})|(?P<mark>:)")
 
 
 class Refused(Exception):
@@ -63,28 +24,13 @@ def refuse(token: Token, why: str) -> Refused:
     return Refused(f"{place(token)}: {why}" if token.source.name else why)
 
 
-def is_six(text: str) -> bool:
-    try:
-        IPv6Address(text)
-        return True
-    except ValueError:
-        return False
-
-
 def scan(source: Source) -> list[Token]:
     """All tokens of a text but blanks; Refused where nft(8) knows none."""
-    tokens, at, line, text = [], 0, 1, source.text
-    while at < len(text):
-        found = SCANNER.match(text, at)
-        if found and found.lastgroup == "six" and not is_six(found[0]):
-            found = NOT_SIX.match(text, at)  # `22:8080:` and the like
-        if not found or not found[0]:
-            shown = text[at : at + 20].split("\n")[0]
-            raise Refused(f"{source.name}:{line}: {shown!r} begins nothing that nft(8) knows")
-        if found.lastgroup != "blank":
-            tokens.append(Token(found.lastgroup or "", found[0], source, line, at, found.end()))
-        line += found[0].count("\n")
-        at = found.end()
+    tokens = list(tokens_in(source))
+    for token in tokens:
+        if token.kind == UNKNOWN:
+            shown_text = source.text[token.start : token.start + 20].split("\n")[0]
+            raise Refused(f"{place(token)}: {shown_text!r} begins nothing that nft(8) knows")
     return tokens
 
 

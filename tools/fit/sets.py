@@ -27,8 +27,9 @@ from .tree import (
 )
 
 if TYPE_CHECKING:
+    from toolbox.lexer import Token
+
     from .fitter import Fitter
-    from .scanner import Token
 
 ENDING = {"timeout", "expires"}
 OWN_FLAGS = ("constant", "interval")

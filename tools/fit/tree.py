@@ -5,7 +5,7 @@ from dataclasses import dataclass, fields, is_dataclass
 from typing import TYPE_CHECKING, Iterator, Sequence, Union
 
 if TYPE_CHECKING:
-    from .scanner import Token
+    from toolbox.lexer import Token
 
 # Values
 

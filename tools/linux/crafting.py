@@ -14,13 +14,17 @@ and behind the addresses, of every line
   cut N              with N bytes fewer behind its IP header
   udplength N        the length field of UDP
 """
+from __future__ import annotations
+
 import io
 import struct
+from typing import Dict, Iterable, Sequence
 
 from toolbox import crafted
-from toolbox.captures import BROADCAST, TO_US, sll2_header, write_header, write_record
+from toolbox.boxes import Box
+from toolbox.captures import BROADCAST, IPV6, TO_US, sll2_header, write_header, write_record
 from toolbox.commands import Refused
-from toolbox.packets import ICMP, TCP, UDP
+from toolbox.packets import ICMP, TCP, UDP, checksum
 
 # modifiers, with how many words follow
 MODIFIERS = {"badsum": 0, "group": 0, "fragment": 1, "more": 0, "cut": 1, "udplength": 1, "hex": 1}
@@ -29,19 +33,23 @@ PLAIN_IPV6 = bytes.fromhex(
     "600000000008114020010db800000000000000000000001020010db800010000000000000000000713880035000870e9")
 
 
-def taken_apart(words):
+Modifiers = Dict[str, str]  # of each its word, and the one behind it
+
+
+def taken_apart(words: Iterable[str]) -> tuple[Modifiers, list[str]]:
     """The modifiers among a line's words, and the rest."""
-    modifiers, rest = {}, []
-    words = iter(words)
-    for word in words:
+    modifiers: Modifiers = {}
+    rest = []
+    left = iter(words)
+    for word in left:
         if word in MODIFIERS:
-            modifiers[word] = next(words, "") if MODIFIERS[word] else True
+            modifiers[word] = next(left, "") if MODIFIERS[word] else ""
         else:
             rest.append(word)
     return modifiers, rest
 
 
-def packet_of(words, modifiers):
+def packet_of(words: Sequence[str], modifiers: Modifiers) -> tuple[bytes, crafted.Options]:
     """The packet of a line without modifiers, and its options."""
     kind = words[0]
     if kind == "ipv6":
@@ -61,14 +69,14 @@ def packet_of(words, modifiers):
     return crafted.ip_packet(source, target, ICMP, message, options), options
 
 
-def with_header(packet, place, value):
+def with_header(packet: bytes, place: int, value: int) -> bytes:
     """The packet with two bytes of its header written, and the header's checksum with it."""
     packet = packet[:place] + struct.pack(">H", value) + packet[place + 2:]
     header = packet[:10] + bytes(2) + packet[12:20]
-    return packet[:10] + struct.pack(">H", crafted.checksum(header)) + packet[12:]
+    return packet[:10] + struct.pack(">H", checksum(header)) + packet[12:]
 
 
-def modified(packet, modifiers):
+def modified(packet: bytes, modifiers: Modifiers) -> bytes:
     if "badsum" in modifiers:
         at = 20 + SUM_AT[packet[9]]
         packet = packet[:at] + bytes((packet[at] ^ 0x55, packet[at + 1])) + packet[at + 2:]
@@ -86,7 +94,7 @@ def modified(packet, modifiers):
     return packet
 
 
-def capture_of(lines, box):
+def capture_of(lines: Iterable[str], box: Box) -> bytes:
     """A capture of LINUX_SLL2, as bytes."""
     file, moment = io.BytesIO(), 0
     write_header(file)
@@ -100,8 +108,9 @@ def capture_of(lines, box):
         except (Refused, ValueError, IndexError) as refusal:
             raise Refused(f"{line.strip()}: {refusal}") from None
         moment = moment if options.moment is None else options.moment
-        header = sll2_header(box.indices[options.comes_by or box.default], BROADCAST if "group" in modifiers else TO_US)
+        interface = box.indices[options.comes_by or box.default or ""]
+        header = sll2_header(interface, BROADCAST if "group" in modifiers else TO_US)
         if words[0] == "ipv6":
-            header = b"\x86\xdd" + header[2:]
+            header = IPV6 + header[2:]
         write_record(file, moment, header + modified(packet, modifiers))
     return file.getvalue()

@@ -1,55 +1,82 @@
 """Where the kernel and nftrun differ: of each record outcome, leaving bytes and rules; of the whole run counters."""
-from collections import namedtuple
-from dataclasses import replace
+from __future__ import annotations
 
-from toolbox.reports import THROUGH
+import enum
+from dataclasses import dataclass, replace
+from typing import Iterable, Iterator, Sequence
+
+from linux.seen import Fate, Said, Told
+from toolbox.reports import THROUGH, Decision, RuleCounter
 from toolbox.rulesets import TRANSLATIONS
 
-OUTCOME, BYTES, RULES = "outcome", "bytes", "rules"
 
-# `kinds` are of the three above; `said` is nftrun's word, `told` the kernel's
-Difference = namedtuple("Difference", "number moment kinds said told")
-CounterDifference = namedtuple("CounterDifference", "counter other")
+class Kind(enum.Enum):
+    """In what a record may differ."""
+
+    OUTCOME = "outcome"
+    BYTES = "bytes"
+    RULES = "rules"
 
 
-def kinds_of(said, told):
+@dataclass(frozen=True)
+class Difference:
+    """A record that differs: what nftrun said, and what the kernel told."""
+
+    number: int
+    moment: int
+    kinds: Sequence[Kind]
+    said: Said
+    told: Told
+
+    @property
+    def parting(self) -> tuple[Decision | None, Decision | None]:
+        """The first decisions that differ, nftrun's and Linux's; one may be None."""
+        ours, theirs = rules_of_nftrun(self.said), self.told.decisions
+        for one, other in zip(ours, theirs):
+            if one != other:
+                return one, other
+        rest = min(len(ours), len(theirs))
+        return ours[rest] if len(ours) > rest else None, theirs[rest] if len(theirs) > rest else None
+
+
+@dataclass(frozen=True)
+class CounterDifference:
+    """A counter of nftrun's report, and the kernel's of the same place, or None."""
+
+    counter: RuleCounter
+    other: RuleCounter | None
+
+
+def kinds_of(said: Said, told: Told) -> list[Kind]:
     """In what one record differs."""
     kinds = []
     if outcome_of_nftrun(said) != outcome_of_linux(told):
-        kinds.append(OUTCOME)
+        kinds.append(Kind.OUTCOME)
     elif said.leaves is not None and [said.leaves] != told.leaves:
-        kinds.append(BYTES)
+        kinds.append(Kind.BYTES)
     if rules_of_nftrun(said) != told.decisions:
-        kinds.append(RULES)
+        kinds.append(Kind.RULES)
     return kinds
 
 
-def outcome_of_nftrun(said):
+def outcome_of_nftrun(said: Said) -> str:
     """What drops a packet beside a rule isn't told by Linux, so all of it counts as one."""
-    return said.outcome if said.outcome in (*THROUGH, "rule") else "dropped"
+    return said.outcome if said.outcome in (*THROUGH, Fate.RULE.value) else Fate.DROPPED.value
 
 
-def outcome_of_linux(told):
-    return "dropped" if told.outcome == "unsent" else told.outcome
+def outcome_of_linux(told: Told) -> str:
+    fate = Fate.DROPPED if told.fate is Fate.UNSENT else told.fate
+    word: str = fate.value
+    return word
 
 
-def rules_of_nftrun(said):
+def rules_of_nftrun(said: Said) -> list[Decision]:
     """The decisions in Linux's words: it tells of a translation as of an accept."""
     return [replace(decision, verdict="accept") if decision.verdict in TRANSLATIONS else decision
             for decision in said.decisions]
 
 
-def first_differing(said, told):
-    """The first decisions that differ, nftrun's and Linux's; one may be None."""
-    ours, theirs = rules_of_nftrun(said), told.decisions
-    for one, other in zip(ours, theirs):
-        if one != other:
-            return one, other
-    rest = min(len(ours), len(theirs))
-    return ours[rest:rest + 1][0] if len(ours) > rest else None, theirs[rest:rest + 1][0] if len(theirs) > rest else None
-
-
-def counter_differences(counters, others):
+def counter_differences(counters: Iterable[RuleCounter], others: Iterable[RuleCounter]) -> Iterator[CounterDifference]:
     """The counters that differ, by their place."""
     by_place = {(other.chain, other.rule, other.which): other for other in others}
     for counter in counters:

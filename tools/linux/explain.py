@@ -1,31 +1,59 @@
 """Which section of docs/LINUX.md explains a difference, by what is seen of it; where nothing fits, none is named."""
-import re
-from collections import namedtuple
+from __future__ import annotations
 
-from linux.differences import BYTES, OUTCOME, first_differing
+import re
+from dataclasses import dataclass
+from typing import Iterator, Mapping
+
+from linux.box import LabBox
+from linux.differences import Difference, Kind
 from linux.frames import BY_LOOPBACK
-from linux.history import is_lone_syn
+from linux.history import History, Inside, Passage, is_lone_syn
+from linux.seen import Fate
 from toolbox.packets import (
     ACK, ANSWER, ASK, FIN, ICMP, ICMP_ERRORS, NO_PORT, RST, SYN, TCP, UDP, checksum, destination_end, source_end,
     tuple_at)
+from toolbox.rulesets import Chain, Rule, Ruleset
 
-SCTP, REDIRECT = 132, 5
+SCTP, GRE, REDIRECT = 132, 47, 5
 QUERIES = (13, 14, 15, 16, 17, 18)
 MULTICAST_FROM = 224
 # what gives a connection other ends: its later packets differ by it, whatever else is seen of them
 ENDS = ("port-taken", "port-for-two", "several-ports", "port-zero", "masquerade-address", "clash", "no-ports",
         "invalid-untranslated")
-# `follows` is the record that it follows from, or None
-Explanation = namedtuple("Explanation", "section follows")
+# what rules do otherwise by their words alone
+WORDS = {"untracked": re.compile("untracked|notrack"),
+         "tcp-flags-set": re.compile(r"tcp flags\s*(?:[!=]=\s*)?[{@]|tcp flags vmap|tcp flags \.|\. tcp flags"),
+         "state-not-several": re.compile(r"ct state\s*!=\s*[a-z]+\s*,"),
+         "status-bits": re.compile(r"ct status\s*(?:[!=]=|[{@]|vmap|\.)|\. ct status")}
+PORTS, EXIT = re.compile(r"\bth (?:sport|dport)\b"), re.compile(r"\boif(?:name)?\b")
+
+
+@dataclass(frozen=True)
+class Explanation:
+    """A section of docs/LINUX.md, and the record that it follows from, or None."""
+
+    section: str
+    follows: int | None
+
+
+@dataclass(frozen=True)
+class Surroundings:
+    """What a run was asked of, with Linux's idle limits in seconds by their names."""
+
+    ruleset: Ruleset
+    box: LabBox
+    limits: Mapping[str, int]
 
 
 class Case:
     """One record that differs, with what the rules below look at."""
 
-    def __init__(self, difference, ruleset, box, history):
+    def __init__(self, difference: Difference, around: Surroundings, history: History) -> None:
+        self.difference = difference
         self.said, self.told = difference.said, difference.told
         self.number, self.moment, self.kinds = difference.number, difference.moment, difference.kinds
-        self.ruleset, self.box, self.history = ruleset, box, history
+        self.ruleset, self.box, self.limits, self.history = around.ruleset, around.box, around.limits, history
         self.packet = self.told.sending.packet
         self.is_ipv4 = len(self.packet) >= 20 and self.packet[0] >> 4 == 4
         self.behind = 4 * (self.packet[0] & 15) if self.is_ipv4 else 0
@@ -34,34 +62,46 @@ class Case:
         self.flags = self.packet[self.behind + 13] if self.key and self.protocol == TCP else 0
         self.conversation = history.known.get(self.number)
         self.ours, self.theirs = self.said.state, self.told.state
-        self.first = first_differing(self.said, self.told)
+        self.first = difference.parting
 
-    def rules(self):
+    def rules(self) -> Iterator[Rule]:
         """The rules at which the two part."""
         for decision in filter(None, self.first):
-            rule = self.ruleset.by_place.get((decision.chain, decision.rule))
+            rule = self.ruleset.rule(decision.chain, decision.rule)
             if rule:
                 yield rule
 
-    def hooks(self):
-        """The hooks at which the two part, nftrun's and Linux's."""
-        return [decision and getattr(self.ruleset.by_name.get(decision.chain), "hook", None) for decision in self.first]
+    def chains(self) -> list[Chain | None]:
+        """The chains in which the two part, nftrun's and Linux's."""
+        return [self.ruleset.by_name.get(decision.chain) if decision else None for decision in self.first]
 
-    def is_icmp(self, *types):
+    def hooks(self) -> list[str | None]:
+        return [chain.hook if chain else None for chain in self.chains()]
+
+    def earlier(self) -> list[Passage]:
+        """The packets of the same conversation before."""
+        return self.conversation.before(self.number) if self.conversation else []
+
+    def is_icmp(self, *types: int) -> bool:
         return self.protocol == ICMP and len(self.packet) > self.behind and self.packet[self.behind] in types
 
-    def has_wrong_checksum(self):
+    def is_answered_by_box(self) -> bool:
+        return self.conversation is not None and self.conversation.answered_by_box
+
+    def has_wrong_checksum(self) -> bool:
         """Of TCP, UDP and ICMP."""
         body = self.packet[self.behind:int.from_bytes(self.packet[2:4], "big")]
         if self.protocol == ICMP:
             return checksum(body) != 0
-        if self.protocol == UDP and body[6:8] == b"\0\0" or self.protocol not in (TCP, UDP):
+        if self.protocol is None or self.protocol not in (TCP, UDP):
+            return False
+        if self.protocol == UDP and body[6:8] == NO_PORT:
             return False
         pseudo = self.packet[12:20] + bytes((0, self.protocol)) + len(body).to_bytes(2, "big")
         return checksum(pseudo + body) != 0
 
 
-def section_of(case):
+def section_of(case: Case) -> Explanation | None:
     """The first of the rules below that fits, as an Explanation, or None."""
     for rule in (by_packet, by_addresses, by_ports):
         section = rule(case)
@@ -80,7 +120,7 @@ def section_of(case):
     return None
 
 
-def by_packet(case):
+def by_packet(case: Case) -> str | None:
     """What nftrun drops before any rule, or for what no rule says."""
     outcome = case.said.outcome
     if case.told.sending.why == BY_LOOPBACK:
@@ -91,12 +131,12 @@ def by_packet(case):
         return "inet-ipv6"
     if outcome == "link":
         return "group-frames"
-    if case.is_icmp(REDIRECT) and outcome == "passed" and case.told.outcome == "dropped":
+    if case.is_icmp(REDIRECT) and outcome == "passed" and case.told.fate is Fate.DROPPED:
         return "icmp-errors"
     return {"clash": "clash", "full": "full-table"}.get(outcome)
 
 
-def by_addresses(case):
+def by_addresses(case: Case) -> str | None:
     """Addresses that Linux has something to say of, beside its routes."""
     if not case.is_ipv4:
         return None
@@ -105,15 +145,15 @@ def by_addresses(case):
         return "broadcast-address"
     odd_source = source in case.box.addresses or source[0] in (0, 127) or source[0] >= MULTICAST_FROM
     odd_target = target[0] in (0, 127) or target[0] >= MULTICAST_FROM
-    if (odd_source or odd_target) and OUTCOME in case.kinds:
+    if (odd_source or odd_target) and Kind.OUTCOME in case.kinds:
         return "sources"
     return None
 
 
-def broadcasts_of(box):
-    for kind, text, _ in box.lines:
-        address, _, length = text.partition("/")
-        if kind == "interface" and int(length) < 31:
+def broadcasts_of(box: LabBox) -> Iterator[bytes]:
+    for line in box.lines:
+        address, _, length = line.prefix.partition("/")
+        if line.is_interface and int(length) < 31:
             number = int.from_bytes(bytes(map(int, address.split("."))), "big")
             yield (number | (1 << 32 - int(length)) - 1).to_bytes(4, "big")
 
@@ -121,60 +161,58 @@ def broadcasts_of(box):
 # Translation
 
 
-def by_ports(case):
+def by_ports(case: Case) -> str | None:
     """What differs by the ends that a packet got."""
     if case.said.outcome == "noport":
         return "port-for-two" if case.protocol in (TCP, UDP) else "no-ports"
     if led_inside(case):
-        entered = case.told.sending.interface
+        frame = case.told.sending.frame
+        entered = frame.interface if frame else None
         return "outside-to-end" if case.box.addresses.get(case.packet[16:20]) == entered else "inside-to-end"
-    if BYTES not in case.kinds or len(case.told.leaves) != 1:
+    if Kind.BYTES not in case.kinds or case.said.leaves is None or len(case.told.leaves) != 1:
         return None
-    ours, theirs = case.said.leaves[1], case.told.leaves[0][1]
+    ours, theirs = case.said.leaves.data, case.told.leaves[0].data
     if case.is_icmp(*ICMP_ERRORS):
         return "error-source" if ours[12:16] != theirs[12:16] else None
     mine, other = tuple_at(ours, 0), tuple_at(theirs, 0)
     if case.key is None or mine is None or other is None:
         return None
-    return by_source(case, mine, other)
+    return by_source(case, case.key, mine, other)
 
 
-def led_inside(case):
+def led_inside(case: Case) -> bool:
     """Whether nftrun led a first packet to a host by its mapping, where Linux took it for the box itself."""
     if case.ours != "new" or case.packet[16:20] not in case.box.addresses or case.theirs in ("established", "invalid"):
         return False
     ours, theirs = case.hooks()
     went_on = case.said.outcome == "passed" or ours in ("forward", "postrouting")
-    return went_on and ("input" in case.told.where or theirs == "input")
+    return went_on and (case.told.where.is_input or theirs == "input")
 
 
-def by_source(case, mine, other):
-    """Of two tuples with which a packet left: why their sources differ."""
+def by_source(case: Case, key: bytes, mine: bytes, other: bytes) -> str | None:
+    """Of two tuples with which a packet left that came with `key`: why their sources differ."""
     if destination_end(mine) != destination_end(other) or source_end(mine) == source_end(other):
         return None
-    if case.theirs == "invalid" and source_end(other) == source_end(case.key):
+    if case.theirs == "invalid" and source_end(other) == source_end(key):
         return "invalid-untranslated"
     if mine[:4] != other[:4]:
         own = case.box.addresses.get(mine[:4])
         return "masquerade-address" if own is not None and own == case.box.addresses.get(other[:4]) else None
-    if case.key[12:] == ASK or case.key[8:10] == NO_PORT:
+    if key[12:] == ASK or key[8:10] == NO_PORT:
         return "port-zero"
-    return by_port(case, mine, other)
+    return by_port(case, key, mine, other)
 
 
-def by_port(case, mine, other):
-    kept_by_linux, kept_by_us = (one[8:10] == case.key[8:10] for one in (other, mine))
-    if earlier_than(case) and case.conversation.sections:
+def by_port(case: Case, key: bytes, mine: bytes, other: bytes) -> str | None:
+    kept_by_linux, kept_by_us = (one[8:10] == key[8:10] for one in (other, mine))
+    if case.conversation and case.earlier() and case.conversation.sections:
         return None  # the connection's first packet tells
     if kept_by_linux:
         return "port-for-two"
     # nftrun keeps to the end that a host has already
-    host = source_end(case.key)
-    ends = case.history.ends.get((case.key[12], host), ())
-    used_before = any(
-        packet.number < case.number and source_end(packet.key) == host
-        for conversation in set(case.history.known.values()) for packet in conversation.packets)
-    if source_end(mine) in ends and used_before:
+    host = source_end(key)
+    ends = case.history.ends.get(Inside(key[12], host), ())
+    if source_end(mine) in ends and case.history.was_used(case.number, host):
         return "several-ports"
     return None if kept_by_us else "port-taken"
 
@@ -182,7 +220,7 @@ def by_port(case, mine, other):
 # Connections
 
 
-def by_state(case):
+def by_state(case: Case) -> str | None:
     """What differs by the ct state."""
     ours, theirs = case.ours, case.theirs
     if ours == theirs or ours is None or theirs is None:
@@ -202,7 +240,7 @@ def by_state(case):
     return why_other_connection(case)
 
 
-def why_invalid(case):
+def why_invalid(case: Case) -> str | None:
     """Why Linux takes a packet for invalid that nftrun doesn't."""
     if case.protocol == SCTP:
         return "sctp"
@@ -212,102 +250,98 @@ def why_invalid(case):
     if wrong:
         return "sequence-checksum"
     if case.key and case.key[12:] == ANSWER:
-        return "idle-limits" if earlier_than(case) and is_idle(case) else None
+        return "idle-limits" if case.earlier() and is_idle(case) else None
     if case.protocol != TCP:
         return None
-    if any(packet.ours for packet in earlier_than(case)):
+    if any(packet.by_nftrun for packet in case.earlier()):
         return "sequence-checksum"
     plain_start = is_lone_syn(case.flags) or case.flags & (SYN | FIN | RST | ACK) == ACK
     return None if plain_start else "first-without-syn"
 
 
-def earlier_than(case):
-    """The packets of the same conversation before."""
-    packets = case.conversation.packets if case.conversation else ()
-    return [packet for packet in packets if packet.number < case.number]
+def is_idle(case: Case) -> bool:
+    gap = case.history.gap(case.number, case.moment)
+    return gap is not None and gap >= shortest_limit(case)
 
 
-def is_idle(case):
-    return case.history.gap(case.number, case.moment) >= shortest_limit(case)
-
-
-def why_other_connection(case):
+def why_other_connection(case: Case) -> str | None:
     """Why a packet belongs to a connection here that it doesn't belong to there, or was answered in."""
-    earlier = earlier_than(case)
+    earlier = case.earlier()
     if not earlier:
         return None
     if is_lone_syn(case.flags) and any(packet.flags & (FIN | RST) for packet in earlier):
         return "syn-when-over"
     if is_idle(case):
         return "idle-limits"
-    if case.theirs == "established" and any(not packet.ours for packet in earlier):
+    if case.theirs == "established" and any(not packet.by_nftrun for packet in earlier):
         return "dropped-packets"
     return None
 
 
-def shortest_limit(case):
+def shortest_limit(case: Case) -> int:
     """The least of Linux's own limits that a connection of this kind may have had; told.limits when changed."""
-    limits = case.box.linux_limits
     if case.protocol == TCP:
-        return min(seconds for name, seconds in limits.items() if name.startswith("tcp_timeout_"))
-    name = {UDP: "udp_timeout", ICMP: "icmp_timeout", 47: "gre_timeout"}.get(case.protocol, "generic_timeout")
-    return limits.get(name, 0)
+        limits = (seconds for name, seconds in case.limits.items() if name.startswith("tcp_timeout_"))
+        return min(limits, default=0)
+    names = {UDP: "udp_timeout", ICMP: "icmp_timeout", GRE: "gre_timeout"}
+    return case.limits.get(names.get(case.protocol or 0, "generic_timeout"), 0)
 
 
 # Rules
 
 
-def by_rules(case):
+def by_rules(case: Case) -> str | None:
     """What differs by the words of the rules at which the two part."""
-    for decision in filter(None, case.first):
-        chain = case.ruleset.by_name.get(decision.chain)
-        if chain and chain.hook == "output":
+    for chain in filter(None, case.chains()):
+        if chain.hook == "output":
             return "output-chains"
-        if chain and chain.type == "nat" and case.conversation and case.conversation.answered_by_box:
+        if chain.type == "nat" and case.is_answered_by_box():
             return "box-sends"
     for rule in case.rules():
-        text = rule.text
-        if "untracked" in text or "notrack" in text:
-            return "untracked"
-        if re.search(r"tcp flags\s*(?:[!=]=\s*)?[{@]|tcp flags vmap|tcp flags \.|\. tcp flags", text):
-            return "tcp-flags-set"
-        if re.search(r"ct state\s*!=\s*[a-z]+\s*,", text):
-            return "state-not-several"
-        if re.search(r"ct status\s*(?:[!=]=|[{@]|vmap|\.)|\. ct status", text):
-            return "status-bits"
-        if re.search(r"\bth (?:sport|dport)\b", text) and case.protocol not in (TCP, UDP):
-            return "other-ports"
-        if re.search(r"\boif(?:name)?\b", text) and without_exit(case, rule.chain):
-            return "no-exit"
-        if "ct " in text and early(case, rule.chain):
-            return "early-chains"
-        if case.theirs and ("ct mark" in text or "ct state" in text) and dropped_before(case):
-            return "dropped-packets"
+        section = by_words(case, rule)
+        if section:
+            return section
     return by_order(case)
 
 
-def early(case, name):
+def by_words(case: Case, rule: Rule) -> str | None:
+    """What differs by the words of one rule."""
+    text = rule.text
+    for section, words in WORDS.items():
+        if words.search(text):
+            return section
+    if PORTS.search(text) and case.protocol not in (TCP, UDP):
+        return "other-ports"
+    if EXIT.search(text) and without_exit(case, rule.chain):
+        return "no-exit"
+    if "ct " in text and early(case, rule.chain):
+        return "early-chains"
+    if case.theirs and ("ct mark" in text or "ct state" in text) and dropped_before(case):
+        return "dropped-packets"
+    return None
+
+
+def early(case: Case, name: str) -> bool:
     """Whether a chain is early, or one that an early one may lead to."""
     chain = case.ruleset.by_name.get(name)
     return chain is not None and (chain.is_early or chain.hook is None
                                   and any(other.is_early for other in case.ruleset.chains))
 
 
-def without_exit(case, name):
+def without_exit(case: Case, name: str) -> bool:
     """Whether packets of a chain may have no output interface: on prerouting and input, or where these may lead."""
     chain = case.ruleset.by_name.get(name)
     return chain is not None and (chain.hook in ("prerouting", "input") or chain.hook is None
                                   and any(other.hook in ("prerouting", "input") for other in case.ruleset.chains))
 
 
-def dropped_before(case):
-    return any(not packet.ours for packet in earlier_than(case))
+def dropped_before(case: Case) -> bool:
+    return any(not packet.by_nftrun for packet in case.earlier())
 
 
-def by_order(case):
+def by_order(case: Case) -> str | None:
     """Chains that have one hook and one priority, in two orders."""
-    ours, theirs = (decision and case.ruleset.by_name.get(decision.chain) for decision in case.first)
-    for chain in filter(None, (ours, theirs)):
+    for chain in filter(None, case.chains()):
         alike = [other for other in case.ruleset.chains if other is not chain and chain.hook
                  and other.hook == chain.hook and other.priority == chain.priority]
         if any(other.type == "nat" or chain.type == "nat" for other in alike):
@@ -317,9 +351,9 @@ def by_order(case):
     return None
 
 
-def explain(difference, ruleset, box, history):
-    """An Explanation or None; what was explained is remembered for later records of the same connection."""
-    case = Case(difference, ruleset, box, history)
+def explain(difference: Difference, around: Surroundings, history: History) -> Explanation | None:
+    """What explains a difference is remembered for later records of the same connection."""
+    case = Case(difference, around, history)
     explanation = section_of(case)
     if explanation and case.conversation:
         case.conversation.sections.setdefault(difference.number, explanation.section)

@@ -1,14 +1,20 @@
 """Sends the records of a capture through the kernel's nf_tables, one by one, and watches what becomes of each."""
+from __future__ import annotations
+
 import json
 import select
 import struct
 import time
-from collections import namedtuple
+from dataclasses import dataclass
+from typing import Any, Dict, Iterable
 
-from linux.frames import sending_of
-from linux.namespaces import command, write_setting
-from linux.netlink import Connections, Traces
+from linux.frames import Cables, Sending, sending_of
+from linux.namespaces import Lab, command, write_setting
+from linux.netlink import Connections, Event, Traces
+from linux.seen import Fate, Packet, Place, Told
 from linux.telling import PROBE, STATES
+from toolbox.boxes import Box
+from toolbox.captures import IPV4, IPV6
 from toolbox.commands import Refused
 from toolbox.reports import Decision, RuleCounter
 
@@ -19,13 +25,30 @@ GRACE = 0.002
 # so many times the usual is waited for a packet that is under way
 PATIENCE = 5
 FRAME_ROOM = 1 << 17
+# the chains below by which a packet was seen, the last ones first
+PLACES = {"post9": Place.BEHIND, "forward9": Place.POSTROUTING, "forward0": Place.FORWARD, "in9": Place.BEHIND_INPUT,
+          "in0": Place.INPUT, "pre": Place.PREROUTING}
 
-# `leaves` and `made` are lists of (interface, packet); `where` tells the last hook that a packet was seen in, `state`
-# its ct state where it was seen
-Told = namedtuple("Told", "sending outcome where state decisions leaves made")
+Entry = Dict[str, Any]  # of what nft lists as JSON
 
 
-def probe_text(with_states):
+@dataclass(frozen=True)
+class Handle:
+    """How the kernel names a rule."""
+
+    chain: str
+    number: int
+
+
+@dataclass(frozen=True)
+class Clock:
+    """A moment of the capture, in nanoseconds, and the kernel's at which time was passed up to it."""
+
+    capture: int
+    kernel: float
+
+
+def probe_text(with_states: bool) -> str:
     """Chains that see each packet first and last in every hook, and change nothing."""
     states = "\n".join(f"  ct state {state} continue" for state in STATES) if with_states else ""
     return f"""table inet {PROBE} {{
@@ -52,37 +75,39 @@ def probe_text(with_states):
 class Rules:
     """The ruleset as the kernel has it: numbers of rules by their handles, and counters at the end."""
 
-    def __init__(self, path):
+    def __init__(self, path: str) -> None:
         command("nft", "-f", path)
         listing = self.listing()
-        self.numbers, self.states, self.own_packets = {}, {}, 0
-        counts = {}
+        self.numbers: dict[Handle, int] = {}
+        self.own_packets = 0
+        counts: dict[str, int] = {}
         text = json.dumps(listing)
         # connections are kept by Linux only where something asks for them
         self.tracks = '"ct"' in text or '"type": "nat"' in text or '"notrack"' in text
-        self.has_inet = any(entry.get("table", {}).get("family") == "inet" for entry in listing)
         for rule in rules_in(listing):
             chain = name_of_chain(rule)
             counts[chain] = counts.get(chain, 0) + 1
-            self.numbers[chain, rule["handle"]] = counts[chain]
+            self.numbers[Handle(chain, rule["handle"])] = counts[chain]
         if any(entry.get("table", {}).get("name") == PROBE for entry in listing):
             raise Refused(f"the ruleset has a table {PROBE}, which this command wants for itself")
         command("nft", "-f", "-", text=probe_text(self.tracks))
         probes = [rule for rule in rules_in(self.listing()) if name_of_chain(rule) == f"inet {PROBE} states"]
-        self.states = {rule["handle"]: state for rule, state in zip(probes, STATES)}
+        self.states: dict[int, str] = {rule["handle"]: state for rule, state in zip(probes, STATES)}
 
     @staticmethod
-    def listing():
-        return json.loads(command("nft", "-j", "-a", "list", "ruleset"))["nftables"]
+    def listing() -> list[Entry]:
+        listed: list[Entry] = json.loads(command("nft", "-j", "-a", "list", "ruleset"))["nftables"]
+        return listed
 
-    def decision_of(self, event):
+    def decision_of(self, event: Event) -> Decision:
         chain = f"{event.family} {event.table} {event.chain}"
-        rule = None if event.rule is None else self.numbers.get((chain, event.rule), event.rule)
+        rule = None if event.rule is None else self.numbers.get(Handle(chain, event.rule), event.rule)
         return Decision(chain, rule, event.verdict)
 
-    def counters(self):
+    def counters(self) -> list[RuleCounter]:
         """As the report of nftrun has them; those of the text's own rules. `own_packets` is how many the box sent."""
-        counters, counts = [], {}
+        counters: list[RuleCounter] = []
+        counts: dict[str, int] = {}
         for rule in rules_in(self.listing()):
             chain = name_of_chain(rule)
             here = [expression["counter"] for expression in rule["expr"]
@@ -96,58 +121,59 @@ class Rules:
         return counters
 
 
-def rules_in(listing):
+def rules_in(listing: Iterable[Entry]) -> list[Entry]:
     return [entry["rule"] for entry in listing if "rule" in entry]
 
 
-def name_of_chain(rule):
+def name_of_chain(rule: Entry) -> str:
     return f"{rule['family']} {rule['table']} {rule['chain']}"
 
 
 class Replay:
     """One capture's way through the kernel; the process is in the router's namespace."""
 
-    def __init__(self, lab, rules_path, wait):
+    def __init__(self, lab: Lab, rules_path: str, wait: float) -> None:
         self.lab, self.wait = lab, wait
+        self.reach = Cables(lab.numbers, lab.with_ipv6)
         self.rules = Rules(rules_path)
         self.traces = Traces()
         self.connections = Connections() if self.rules.tracks else None
-        self.by_cable = {cable.fileno(): (index, cable) for index, cable in lab.cables.items()}
-        self.clock = None  # the capture's moment and the kernel's, up to which time was passed
+        self.clock: Clock | None = None
         self.take_frames([])
 
-    def close(self):
+    def close(self) -> None:
         self.traces.close()
         if self.connections:
             self.connections.close()
 
-    def keep_time(self, moment):
+    def keep_time(self, moment: int) -> None:
         """Has connections age as the capture's time passes, to a second."""
         now = time.monotonic()
         if self.clock is None:
-            self.clock = moment, now
-        ahead = (moment - self.clock[0]) / 1e9 - (now - self.clock[1])
+            self.clock = Clock(moment, now)
+        ahead = (moment - self.clock.capture) / 1e9 - (now - self.clock.kernel)
         whole = int(ahead)
         if whole and self.connections:
             self.connections.pass_time(whole)
-            self.clock = self.clock[0] + whole * 10**9, self.clock[1]
+            self.clock = Clock(self.clock.capture + whole * 10**9, self.clock.kernel)
 
-    def send(self, moment, data, link_type):
+    def send(self, moment: int, data: bytes, link_type: int) -> Told:
         """What becomes of one record."""
         self.keep_time(moment)
-        sending = sending_of(data, link_type, self.lab.box, self.lab)
+        sending = sending_of(data, link_type, self.lab.box, self.reach)
         if sending.frame is None:
-            return Told(sending, "unsent", "", None, [], [], [])
+            return Told(sending, Fate.UNSENT, Place.NOWHERE, None, [], [], [])
         try:
-            self.lab.cables[sending.interface].send(sending.frame)
+            self.lab.cables[sending.frame.interface].send(sending.frame.data)
         except OSError as error:
             raise Refused(f"a packet of {len(sending.packet)} bytes can't be sent: {error.strerror}") from None
         return self.watch(sending)
 
-    def watch(self, sending):
+    def watch(self, sending: Sending) -> Told:
         """Waits until it is decided what becomes of a packet, and shortly for what the box says of its own."""
-        events, frames, decided = [], [], False
-        begun = time.monotonic()
+        events: list[Event] = []
+        frames: list[Packet] = []
+        decided, begun = False, time.monotonic()
         end, last_end = begun + self.wait, begun + PATIENCE * self.wait
         while True:
             left = end - time.monotonic()
@@ -162,71 +188,71 @@ class Replay:
                     return self.told(sending, events, frames)
                 end = min(last_end, time.monotonic() + self.wait)
 
-    def take_frames(self, frames):
-        """What left by the cables by now, as (interface, packet)."""
-        for index, cable in self.by_cable.values():
+    def take_frames(self, frames: list[Packet]) -> None:
+        """What left by the cables by now."""
+        for index, cable in self.lab.cables.items():
             while True:
                 try:
                     frame, address = cable.recvfrom(FRAME_ROOM)
                 except BlockingIOError:
                     break
-                if address[2] != OUTGOING and frame[12:14] in (b"\x08\x00", b"\x86\xdd"):
-                    frames.append((index, without_padding(frame[ETHERNET_HEADER:])))
+                if address[2] != OUTGOING and frame[12:14] in (IPV4, IPV6):
+                    frames.append(Packet(index, without_padding(frame[ETHERNET_HEADER:])))
 
-    def told(self, sending, events, frames):
-        seen = {event.chain for event in events if event.table == PROBE}
+    def told(self, sending: Sending, events: list[Event], frames: list[Packet]) -> Told:
+        probes = [event for event in events if event.table == PROBE]
+        seen = {event.chain for event in probes}
         decisions = [self.rules.decision_of(event) for event in events if event.table != PROBE]
-        states = [self.rules.states[event.rule] for event in events if event.rule in self.rules.states
-                  and event.table == PROBE and event.chain == "states"]
-        last = [event.header for event in events if event.table == PROBE and event.chain == "post9" and event.header]
-        leaves = [frame for frame in frames if "post9" in seen and (not last or is_of(frame[1], last))]
+        states = [self.rules.states[event.rule] for event in probes
+                  if event.rule is not None and event.rule in self.rules.states and event.chain == "states"]
+        last = [event.header for event in probes if event.chain == "post9" and event.header]
+        leaves = [frame for frame in frames if "post9" in seen and (not last or is_of(frame.data, last))]
         made = [frame for frame in frames if frame not in leaves]
-        if leaves:
-            outcome = "passed"
-        elif "in9" in seen and not any(decision.verdict == "drop" for decision in decisions):
-            outcome = "local"
-        elif any(decision.verdict == "drop" for decision in decisions):
-            outcome = "rule"
-        else:
-            outcome = "dropped"
-        return Told(sending, outcome, where_of(seen), states[0] if states else None, decisions, leaves, made)
+        is_dropped = any(decision.verdict == "drop" for decision in decisions)
+        return Told(sending, fate_of(bool(leaves), "in9" in seen, is_dropped), where_of(seen),
+                    states[0] if states else None, decisions, leaves, made)
 
 
-def is_of(packet, headers):
+def fate_of(leaves: bool, came_in: bool, is_dropped: bool) -> Fate:
+    if leaves:
+        return Fate.PASSED
+    if is_dropped:
+        return Fate.RULE
+    return Fate.LOCAL if came_in else Fate.DROPPED
+
+
+def is_of(packet: bytes, headers: Iterable[bytes]) -> bool:
     """Whether a packet has one of the headers that postrouting saw; its own checksum was written later perhaps."""
     return any(packet[:10] == header[:10] and packet[12:20] == header[12:20] for header in headers)
 
 
-def is_decided(events, frames):
+def is_decided(events: Iterable[Event], frames: list[Packet]) -> bool:
     if any(event.verdict == "drop" for event in events):
         return True
     seen = {event.chain for event in events if event.table == PROBE}
     return "in9" in seen or ("post9" in seen and bool(frames))
 
 
-def is_under_way(events):
+def is_under_way(events: Iterable[Event]) -> bool:
     """Whether more has to come: nothing was seen yet, or the packet went through postrouting and hasn't left. A machine
     that is busy may be slow."""
     seen = {event.chain for event in events if event.table == PROBE}
     return not seen or "post9" in seen
 
 
-def where_of(seen):
-    """The last place that a packet was seen at."""
-    for chain, place in (("post9", "behind postrouting"), ("forward9", "postrouting"), ("forward0", "forward"),
-                         ("in9", "behind input"), ("in0", "input"), ("pre", "prerouting")):
-        if chain in seen:
-            return place
-    return "before prerouting"
+def where_of(seen: set[str]) -> Place:
+    """The last place that a packet was seen at, by the chains that saw it."""
+    return next((place for chain, place in PLACES.items() if chain in seen), Place.BEFORE)
 
 
-def without_padding(packet):
+def without_padding(packet: bytes) -> bytes:
     if packet[:1] and packet[0] >> 4 == 4 and len(packet) >= 4:
-        return packet[:struct.unpack_from(">H", packet, 2)[0]]
+        length: int = struct.unpack_from(">H", packet, 2)[0]
+        return packet[:length]
     return packet
 
 
-def set_limits(box):
+def set_limits(box: Box) -> None:
     """Has Linux keep connections just as long as the box file says, and look at no sequence numbers and checksums."""
     idle = box.idle
     limits = {

@@ -1,12 +1,16 @@
 """Two network namespaces of this process alone: the router, with the interfaces of a box file, and its peer, which has
 the other ends of their cables. Nothing leads out of them, and both are gone when the process ends."""
+from __future__ import annotations
+
 import contextlib
 import ctypes
 import os
 import re
 import socket
 import subprocess
+from typing import Iterable
 
+from linux.box import LabBox
 from toolbox.commands import Refused
 
 NEW_NET = 0x40000000
@@ -17,7 +21,7 @@ SETTING = re.compile(r"net\.(?:ipv4|ipv6|netfilter|core)(?:\.[A-Za-z0-9_-]+)+")
 libc = ctypes.CDLL(None, use_errno=True)
 
 
-def command(*words, text=None):
+def command(*words: str, text: str | None = None) -> str:
     """Runs a command; answers what it printed, or refuses with the first line of its complaint."""
     try:
         done = subprocess.run(words, input=text, capture_output=True, text=True, errors="surrogateescape", check=False)
@@ -29,7 +33,7 @@ def command(*words, text=None):
     return done.stdout
 
 
-def write_setting(path, value):
+def write_setting(path: str, value: int | str) -> bool:
     """Whether a file below /proc/sys/net was written."""
     try:
         with open(f"/proc/sys/net/{path}", "w", encoding="ascii") as file:
@@ -39,16 +43,16 @@ def write_setting(path, value):
     return True
 
 
-def station(side, number):
+def station(side: int, number: int) -> bytes:
     """A station's address on a cable."""
     return bytes((2, side, 0, 0, number >> 8 & 255, number & 255))
 
 
-def colons(address):
+def colons(address: bytes) -> str:
     return ":".join(f"{byte:02x}" for byte in address)
 
 
-def enter_new():
+def enter_new() -> int:
     if libc.unshare(NEW_NET):
         raise Refused(f"a network namespace can't be made: {os.strerror(ctypes.get_errno())}")
     return os.open("/proc/self/ns/net", os.O_RDONLY | os.O_CLOEXEC)
@@ -58,10 +62,11 @@ class Lab:
     """The namespaces with a cable for each interface of the box but lo, which each has of its own; `cables` are the
     sockets of the peer's ends, by the interface's index. The process stays in the router's."""
 
-    def __init__(self, box, with_ipv6):
+    def __init__(self, box: LabBox, with_ipv6: bool) -> None:
         self.box, self.with_ipv6 = box, with_ipv6
         self.files = contextlib.ExitStack()
-        self.cables, self.numbers = {}, {}
+        self.cables: dict[int, socket.socket] = {}
+        self.numbers: dict[int, int] = {}
         home = os.open("/proc/self/ns/net", os.O_RDONLY | os.O_CLOEXEC)
         self.files.callback(os.close, home)
         self.files.callback(self.enter, home)
@@ -74,27 +79,27 @@ class Lab:
             self.close()
             raise
 
-    def made(self):
+    def made(self) -> int:
         namespace = enter_new()
         self.files.callback(os.close, namespace)
         self.quiet()
         return namespace
 
     @staticmethod
-    def enter(namespace):
+    def enter(namespace: int) -> None:
         if libc.setns(namespace, NEW_NET):
             raise Refused(f"a network namespace can't be entered: {os.strerror(ctypes.get_errno())}")
 
-    def close(self):
+    def close(self) -> None:
         self.files.close()
 
-    def check_names(self):
+    def check_names(self) -> None:
         for index, name in self.box.names.items():
             if (index == LOOPBACK_INDEX) != (name == LOOPBACK):
-                raise Refused(f"the box file's interface {name} has the index or the name of a namespace's own lo, which "
-                              f"is {LOOPBACK_INDEX}")
+                raise Refused(f"the box file's interface {name} has the index or the name of a namespace's own lo, "
+                              f"which is {LOOPBACK_INDEX}")
 
-    def lay_cables(self):
+    def lay_cables(self) -> None:
         # the process is in the peer's namespace
         write_setting("ipv4/ip_forward", 0)
         router = f"/proc/{os.getpid()}/fd/{self.router}"
@@ -114,7 +119,7 @@ class Lab:
             self.cables[index] = self.socket_at(f"far{number}")
         self.enter(self.router)
 
-    def socket_at(self, name):
+    def socket_at(self, name: str) -> socket.socket:
         cable = socket.socket(socket.AF_PACKET, socket.SOCK_RAW, socket.htons(ALL_PROTOCOLS))
         self.files.callback(cable.close)
         cable.setsockopt(socket.SOL_SOCKET, socket.SO_RCVBUF, 1 << 22)
@@ -122,14 +127,14 @@ class Lab:
         cable.setblocking(False)
         return cable
 
-    def quiet(self):
+    def quiet(self) -> None:
         """Nothing of IPv6 is sent that no record asked for."""
         for which in ("all", "default"):
             write_setting(f"ipv6/conf/{which}/disable_ipv6", 0 if self.with_ipv6 else 1)
             write_setting(f"ipv6/conf/{which}/addr_gen_mode", 1)
             write_setting(f"ipv6/conf/{which}/accept_ra", 0)
 
-    def set_up_router(self):
+    def set_up_router(self) -> None:
         command("ip", "link", "set", "lo", "up")
         write_setting("ipv4/ip_forward", 1)
         for which in ("all", "default"):
@@ -147,24 +152,25 @@ class Lab:
             write_setting(f"ipv4/conf/{name}/rp_filter", 0)
         self.add_addresses_and_routes()
 
-    def add_addresses_and_routes(self):
+    def add_addresses_and_routes(self) -> None:
         """The routes of the box file, of equal prefixes the first one first. There are no gateways."""
-        for metric, (kind, what, name) in enumerate(self.box.lines, 1):
-            prefix = what
-            if kind == "interface" and name == LOOPBACK:
+        for metric, line in enumerate(self.box.lines, 1):
+            prefix = line.prefix
+            if line.is_interface and line.name == LOOPBACK:
                 # its own is there already, and what it has is routed by the table of local addresses
-                command("ip", "addr", "replace", what, "dev", name)
+                command("ip", "addr", "replace", prefix, "dev", line.name)
                 continue
-            if kind == "interface":
-                command("ip", "addr", "add", what, "dev", name, "noprefixroute")
-                prefix = network_of(what)
-            command("ip", "route", "add", prefix, "dev", name, "metric", str(metric))
+            if line.is_interface:
+                command("ip", "addr", "add", prefix, "dev", line.name, "noprefixroute")
+                prefix = network_of(prefix)
+            command("ip", "route", "add", prefix, "dev", line.name, "metric", str(metric))
         if self.with_ipv6:
             write_setting("ipv6/conf/all/forwarding", 1)
             leaving = self.box.route(bytes((192, 0, 2, 1))) or self.box.default
-            command("ip", "-6", "route", "add", "default", "dev", leaving)
+            if leaving is not None:
+                command("ip", "-6", "route", "add", "default", "dev", leaving)
 
-    def settings(self, settings):
+    def settings(self, settings: Iterable[str]) -> None:
         """Writes what was asked for by `--set`, in the router's namespace."""
         for setting in settings:
             name, equals, value = setting.partition("=")
@@ -174,7 +180,7 @@ class Lab:
                 raise Refused(f"--set {setting}: the kernel doesn't take it in a namespace")
 
 
-def network_of(text):
+def network_of(text: str) -> str:
     """192.168.1.0/24 of 192.168.1.1/24"""
     address, _, length = text.partition("/")
     number = int.from_bytes(socket.inet_aton(address), "big")

@@ -3,6 +3,8 @@
 The hosts speak TCP, UDP and ICMP by the kernel; the capture is what `tcpdump -i any -y LINUX_SLL2` sees on the router,
 or what enters it by one interface as Ethernet.
 """
+from __future__ import annotations
+
 import array
 import contextlib
 import ctypes
@@ -13,6 +15,8 @@ import signal
 import socket
 import struct
 import time
+from dataclasses import dataclass
+from typing import Callable, Iterator, Sequence, Tuple
 
 from linux.namespaces import Lab, command, enter_new, write_setting
 from toolbox.captures import ETHERNET, LINUX_SLL2, write_header, write_record
@@ -24,8 +28,11 @@ DISCOVER, PROBE_ALWAYS = 10, 2  # IP_MTU_DISCOVER, IP_PMTUDISC_DO
 SEEN_TOO = 4  # PACKET_OUTGOING
 OTHER_ADDRESSES = ("198.51.100.7/32", "198.51.100.9/32", "198.51.100.50/32")
 
+Address = Tuple[str, int]  # as sockets take it
+Traffic = Callable[[], None]
 
-def offloads_off(name):
+
+def offloads_off(name: str) -> None:
     """Has an interface send packets as they are on a wire: whole segments, with their checksums."""
     with socket.socket(socket.AF_INET, socket.SOCK_DGRAM) as control:
         for what in OFFLOADS:
@@ -36,41 +43,43 @@ def offloads_off(name):
 
 
 class World:
-    """A router with `lan` and `wan`, two hosts of lan, and behind wan a next hop with three servers and a narrow link."""
+    """A router with `lan` and `wan`, two hosts of lan, and behind wan a next hop with three servers and a narrow
+    link."""
 
-    def __init__(self, rules, offloads):
+    def __init__(self, rules: str, offloads: bool) -> None:
         self.files = contextlib.ExitStack()
         home = os.open("/proc/self/ns/net", os.O_RDONLY)
         self.files.callback(os.close, home)
         self.files.callback(Lab.enter, home)
-        self.spaces = {}
+        self.spaces: dict[str, int] = {}
         for name in ("lan", "wan", "router"):
             self.spaces[name] = enter_new()
             self.files.callback(os.close, self.spaces[name])
         for side, index in (("lan", 2), ("wan", 3)):
             path = f"/proc/{os.getpid()}/fd/{self.spaces[side]}"
-            command("ip", "link", "add", side, "index", str(index), "type", "veth", "peer", "name", "uplink", "netns", path)
+            command("ip", "link", "add", side, "index", str(index), "type", "veth", "peer", "name", "uplink",
+                    "netns", path)
         self.set_up_router(rules, offloads)
         self.set_up_lan(offloads)
         self.set_up_wan(offloads)
         self.enter("router")
 
-    def enter(self, name):
+    def enter(self, name: str) -> None:
         Lab.enter(self.spaces[name])
 
-    def set_up_router(self, rules, offloads):
+    def set_up_router(self, rules: str, offloads: bool) -> None:
         for name, address in (("lan", "192.168.1.1/24"), ("wan", "203.0.113.1/24")):
             self.bring_up(name, offloads, address)
         command("ip", "route", "add", "default", "via", "203.0.113.254")
         write_setting("ipv4/ip_forward", 1)
         command("nft", "-f", rules)
 
-    def set_up_lan(self, offloads):
+    def set_up_lan(self, offloads: bool) -> None:
         self.enter("lan")
         self.bring_up("uplink", offloads, "192.168.1.10/24", "192.168.1.11/24", "192.168.1.20/24")
         command("ip", "route", "add", "default", "via", "192.168.1.1")
 
-    def set_up_wan(self, offloads):
+    def set_up_wan(self, offloads: bool) -> None:
         self.enter("wan")
         self.bring_up("uplink", offloads, "203.0.113.254/24")
         for address in OTHER_ADDRESSES:
@@ -83,7 +92,7 @@ class World:
         write_setting("ipv4/icmp_ratelimit", 0)
 
     @staticmethod
-    def bring_up(name, offloads, *addresses):
+    def bring_up(name: str, offloads: bool, *addresses: str) -> None:
         write_setting(f"ipv6/conf/{name}/disable_ipv6", 1)
         for address in addresses:
             command("ip", "addr", "add", address, "dev", name)
@@ -94,7 +103,7 @@ class World:
 
 
 @contextlib.contextmanager
-def child(world, side, what):
+def child(world: World, side: str, what: Traffic) -> Iterator[int]:
     """Runs a function in another process, at a side of the world, and ends it."""
     process = os.fork()
     if process == 0:
@@ -112,33 +121,52 @@ def child(world, side, what):
         os.waitpid(process, 0)
 
 
-def capture(world, path, side, traffic, by_ethernet=None):
-    """Writes what the router sees while `traffic` runs at a side; alone what enters by one interface, if it is named."""
+@dataclass(frozen=True)
+class Ear:
+    """A socket that hears what the router sees: alone what enters by one interface, if it is named."""
+
+    listening: socket.socket
+    by_ethernet: str | None
+
+    def hear(self) -> bytes | None:
+        """A record's bytes, or None of what isn't recorded."""
+        data, (name, protocol, packet_type, hardware, address) = self.listening.recvfrom(1 << 17)
+        if name == "lo" or self.by_ethernet and packet_type == SEEN_TOO:
+            return None
+        header = b"" if self.by_ethernet else struct.pack(
+            ">HHIHBB8s", protocol, 0, socket.if_nametoindex(name), hardware, packet_type, len(address), address)
+        return header + bytes(data)
+
+    def is_ready(self) -> bool:
+        return bool(select.select([self.listening], [], [], 0.1)[0])
+
+
+def capture(world: World, path: str, side: str, traffic: Traffic, by_ethernet: str | None = None) -> None:
+    """Writes what the router sees while `traffic` runs at a side; alone what enters by one interface, if it is
+    named."""
     kind, link = (socket.SOCK_RAW, ETHERNET) if by_ethernet else (socket.SOCK_DGRAM, LINUX_SLL2)
-    with socket.socket(socket.AF_PACKET, kind, socket.htons(3)) as ear, open(path, "wb") as file:
-        ear.setsockopt(socket.SOL_SOCKET, socket.SO_RCVBUF, 1 << 23)
+    with socket.socket(socket.AF_PACKET, kind, socket.htons(3)) as listening, open(path, "wb") as file:
+        listening.setsockopt(socket.SOL_SOCKET, socket.SO_RCVBUF, 1 << 23)
         if by_ethernet:
-            ear.bind((by_ethernet, 3))
+            listening.bind((by_ethernet, 3))
+        ear = Ear(listening, by_ethernet)
         write_header(file, link)
         with child(world, side, traffic) as process:
             begun, idle = time.time_ns(), 0
             while idle < 8:
-                idle = idle + 1 if not select.select([ear], [], [], 0.1)[0] else 0
-                if idle:
-                    idle = idle if os.waitid(os.P_PID, process, os.WEXITED | os.WNOHANG | os.WNOWAIT) else 0
+                if not ear.is_ready():
+                    has_ended = os.waitid(os.P_PID, process, os.WEXITED | os.WNOHANG | os.WNOWAIT)
+                    idle = idle + 1 if has_ended else 0
                     continue
-                data, (name, protocol, packet_type, hardware, address) = ear.recvfrom(1 << 17)
-                if name == "lo" or by_ethernet and packet_type == SEEN_TOO:
-                    continue
-                header = b"" if by_ethernet else struct.pack(
-                    ">HHIHBB8s", protocol, 0, socket.if_nametoindex(name), hardware, packet_type, len(address), address)
-                write_record(file, time.time_ns() - begun + 10**9, header + data)
+                idle, data = 0, ear.hear()
+                if data is not None:
+                    write_record(file, time.time_ns() - begun + 10**9, data)
 
 
 # What hosts do
 
 
-def serve(addresses, port, size, closes_first=True):
+def serve(addresses: Sequence[str], port: int, size: int, closes_first: bool = True) -> None:
     """A server of TCP: reads once, answers with so many bytes, and closes."""
     listeners = []
     for address in addresses:
@@ -157,7 +185,7 @@ def serve(addresses, port, size, closes_first=True):
             connection.close()
 
 
-def answer(addresses, port):
+def answer(addresses: Sequence[str], port: int) -> None:
     """A server of UDP."""
     sockets = []
     for address in addresses:
@@ -170,7 +198,8 @@ def answer(addresses, port):
             one.sendto(data * 2, peer)
 
 
-def fetch(source, port, target, words=b"GET / HTTP/1.0\r\n\r\n", closes_first=False):
+def fetch(source: str, port: int, target: Address, words: bytes = b"GET / HTTP/1.0\r\n\r\n",
+          closes_first: bool = False) -> None:
     """A connection of TCP from an address; what comes is read to its end, or of it what comes at once."""
     with socket.socket() as one:
         one.settimeout(3)
@@ -183,7 +212,7 @@ def fetch(source, port, target, words=b"GET / HTTP/1.0\r\n\r\n", closes_first=Fa
                 pass
 
 
-def ask(source, port, target, size=20, ttl=64, whole=False):
+def ask(source: str, port: int, target: Address, size: int = 20, ttl: int = 64, whole: bool = False) -> None:
     """A question by UDP, and whatever comes back."""
     with socket.socket(socket.AF_INET, socket.SOCK_DGRAM) as one:
         one.settimeout(0.2)
@@ -197,7 +226,7 @@ def ask(source, port, target, size=20, ttl=64, whole=False):
             one.recv(65536)
 
 
-def ping(source, target, identifier):
+def ping(source: str, target: str, identifier: int) -> None:
     """An echo request, and its answer."""
     with socket.socket(socket.AF_INET, socket.SOCK_RAW, socket.IPPROTO_ICMP) as one:
         one.bind((source, 0))

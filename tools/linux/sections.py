@@ -1,4 +1,5 @@
 """The sections of docs/LINUX.md by short names, which are also those of the folders in tools/linux/sections."""
+from __future__ import annotations
 
 SECTIONS = {
     "same-priority": "Two base chains of one hook and one priority.",
@@ -42,5 +43,5 @@ SECTIONS = {
 }
 
 
-def title(name):
+def title(name: str) -> str:
     return SECTIONS[name].rstrip(".")

@@ -1,56 +1,92 @@
 """A ruleset that tells more: which rules held that decide nothing, and what the ct state was.
 
-A report tells of rules that decide. The ruleset made here has a `log` statement at the end of the others, and a chain that
-logs the state as soon as connections are looked for; it decides as before.
+A report tells of rules that decide. The ruleset made here has a `log` statement at the end of the others, and a chain
+that logs the state as soon as connections are looked for; it decides as before.
 """
+from __future__ import annotations
+
+from dataclasses import dataclass
+from typing import Iterable, Iterator, Union
+
+from toolbox.lexer import Source, Token, tokens_in
 from toolbox.reports import Decision, Log, event_of, records_of
-from toolbox.rulesets import TOKEN, TRANSLATIONS, VERDICTS, Token, statement_words
+from toolbox.rulesets import TRANSLATIONS, VERDICTS, statement_words
 
 HELD = "beside-linux: held"
 PROBE = "beside_linux_probe"
 STATES = ("invalid", "new", "established", "related", "untracked")
 
 
-def rule_ends(text):
-    """Where in a ruleset's text the rules that decide nothing end, before a comment of theirs."""
-    depth, in_chain, piece = 0, False, []
-    for match in TOKEN.finditer(text):
-        kind, word = match.lastgroup, match.group()
-        if kind == "blank":
-            continue
-        ends = kind == "newline" or word == ";" or word == "}"
-        if in_chain and depth == 2 and ends:
-            place = end_of_rule(piece)
-            if place is not None:
-                yield place
-            piece = []
-        elif in_chain and depth >= 2 and kind != "newline":
-            piece.append(match)
+@dataclass(frozen=True)
+class State:
+    """The ct state of a record, as it was logged."""
+
+    word: str
+
+
+@dataclass(frozen=True)
+class Seen:
+    """What a report tells of a record: its ct state, where that is logged, and its decisions with the rules that
+    held."""
+
+    state: str | None
+    decisions: list[Decision]
+
+
+Event = Union[State, Decision, None]
+
+
+class RuleEnds:
+    """Goes through the tokens of a ruleset; `take` answers the place where a rule that decides nothing ends, before a
+    comment of its own."""
+
+    def __init__(self) -> None:
+        self.depth, self.in_chain = 0, False
+        self.piece: list[Token] = []
+
+    def take(self, token: Token) -> int | None:
+        word, place = token.text, None
+        is_newline = token.kind == "newline"
+        if self.in_chain and self.depth == 2 and (is_newline or word in (";", "}")):
+            place, self.piece = end_of_rule(self.piece), []
+        elif self.in_chain and self.depth >= 2 and not is_newline:
+            self.piece.append(token)
+        self.go(word)
+        return place
+
+    def go(self, word: str) -> None:
+        """Into a block, out of one, or past the word that says what the next one is."""
         if word == "{":
-            depth += 1
-            piece = piece if depth > 2 else []
+            self.depth += 1
+            self.piece = self.piece if self.depth > 2 else []
         elif word == "}":
-            depth -= 1
-            in_chain = in_chain and depth >= 2
-        elif depth == 1 and word == "chain":
-            in_chain = True
-        elif depth == 1 and word in ("set", "map"):
-            in_chain = False
+            self.depth -= 1
+            self.in_chain = self.in_chain and self.depth >= 2
+        elif self.depth == 1 and word in ("chain", "set", "map"):
+            self.in_chain = word == "chain"
 
 
-def end_of_rule(piece):
+def rule_ends(text: str) -> Iterator[int]:
+    """Where in a ruleset's text the rules that decide nothing end, before a comment of theirs."""
+    ends = RuleEnds()
+    for token in tokens_in(Source("", text)):
+        place = ends.take(token)
+        if place is not None:
+            yield place
+
+
+def end_of_rule(tokens: list[Token]) -> int | None:
     """The place behind a rule's last statement, or None where it decides, or is no rule."""
-    tokens = [Token(match.lastgroup, match.group(), 0, True) for match in piece]
-    if not piece or tokens[0].text in ("type", "policy", "comment"):
+    if not tokens or tokens[0].text in ("type", "policy", "comment"):
         return None
     if any(word in VERDICTS + TRANSLATIONS for word in statement_words(tokens)):
         return None
-    if len(piece) > 2 and tokens[-2].text == "comment" and tokens[-1].kind == "string":
-        piece = piece[:-2]
-    return piece[-1].end()
+    if len(tokens) > 2 and tokens[-2].text == "comment" and tokens[-1].kind == "string":
+        tokens = tokens[:-2]
+    return tokens[-1].end
 
 
-def telling(text):
+def telling(text: str) -> str:
     """The ruleset with logs that tell which rules held, and of the ct state."""
     pieces, last = [], 0
     for place in rule_ends(text):
@@ -66,36 +102,36 @@ table inet {PROBE} {{
 """
 
 
-class Told:
-    """Reads what a report of such a ruleset tells of a record: its ct state, and its decisions with the rules that held."""
+class Reader:
+    """Reads what a report of such a ruleset tells of a record; each line is read once."""
 
-    def __init__(self):
-        self.known = {}
+    def __init__(self) -> None:
+        self.known: dict[bytes, Event] = {}
 
-    def of(self, events):
+    def seen(self, events: Iterable[bytes]) -> Seen:
         state, decisions = None, []
         for event in events:
             if event not in self.known:
                 self.known[event] = self.read(event)
-            kind, one = self.known[event]
-            if kind == "state":
-                state = one
-            elif kind == "decision":
+            one = self.known[event]
+            if isinstance(one, State):
+                state = one.word
+            elif one is not None:
                 decisions.append(one)
-        return state, decisions
+        return Seen(state, decisions)
 
     @staticmethod
-    def read(event):
+    def read(event: bytes) -> Event:
         one = event_of(event)
         if one.chain == f"inet {PROBE} states":
-            return ("state", one.prefix) if isinstance(one, Log) else ("nothing", None)
+            return State(one.prefix) if isinstance(one, Log) else None
         if isinstance(one, Decision):
-            return "decision", one
-        return ("decision", Decision(one.chain, one.rule, "continue")) if one.prefix == HELD else ("nothing", None)
+            return one
+        return Decision(one.chain, one.rule, "continue") if one.prefix == HELD else None
 
 
-def told_records(report):
-    """For each record of a report its ct state, where that is logged, and its decisions."""
-    told = Told()
+def told_records(report: str) -> Iterator[Seen]:
+    """What a report tells of each record."""
+    reader = Reader()
     for _, events, _ in records_of(report):
-        yield told.of(events)
+        yield reader.seen(events)

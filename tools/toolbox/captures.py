@@ -20,7 +20,7 @@ LINK_NAMES = {ETHERNET: "Ethernet", RAW_IP: "raw IP", LINUX_SLL2: "LINUX_SLL2"}
 LINK_LENGTHS = {ETHERNET: 14, RAW_IP: 0, LINUX_SLL2: 20}
 # where the protocol stands in a link header
 PROTOCOL_AT = {ETHERNET: 12, RAW_IP: None, LINUX_SLL2: 0}
-IPV4 = b"\x08\x00"
+IPV4, IPV6 = b"\x08\x00", b"\x86\xdd"
 # packet types of LINUX_SLL2, in byte 10: sent to us, broadcast, multicast, to another station, sent by us
 TO_US, BROADCAST, MULTICAST, OTHER_STATION, SENT_BY_US = range(5)
 

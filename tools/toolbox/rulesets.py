@@ -4,41 +4,21 @@ What nftrun refuses may be read here as anything.
 """
 from __future__ import annotations
 
-import re
 from dataclasses import dataclass
 from typing import Iterator, Sequence
 
 from toolbox.commands import Refused, read_text
-
-TOKEN = re.compile(
-    r"""(?P<blank>[ \t\r]+|\\\n|\#[^\n]*)
-      | (?P<newline>\n)
-      | (?P<word>[A-Za-z_][A-Za-z0-9_./-]*)
-      | (?P<number>0x[0-9A-Fa-f]+|[0-9]+(?:\.[0-9]+){3}|[0-9]+)
-      | (?P<string>"[^"\n]*")
-      | (?P<mark>==|!=|<=|>=|.)""",
-    re.VERBOSE | re.DOTALL,
-)
-
-
-@dataclass(frozen=True)
-class Token:
-    """A token; `kind` is the name of its group in TOKEN, and `parted` tells whether something stands before it."""
-
-    kind: str
-    text: str
-    line: int
-    parted: bool
-
+from toolbox.language import NFT
+from toolbox.lexer import Source, Token, tokens_in
 
 # Selectors whose values may be spelled like statements: an interface may be called `log`,
 # `redirect` is a type of ICMP, and `snat` a status.
-WORDY_SELECTORS = ("iifname", "oifname", "iif", "oif", "icmp type", "ct status")
+WORDY_SELECTORS = (*NFT.without_meta,
+                   *(name for name in NFT.selectors if not NFT.words_of(name).keys().isdisjoint(NFT.statements)))
 OPERATORS = ("==", "!=", "<", ">", "<=", ">=")
 ENDS = ("accept", "drop", "return", "goto")
-VERDICTS = (*ENDS, "continue", "jump", "vmap")
+VERDICTS = (*NFT.verdicts, "vmap")
 TRANSLATIONS = ("snat", "dnat", "masquerade", "redirect")
-PRIORITIES = {"raw": -300, "mangle": -150, "dstnat": -100, "filter": 0, "security": 50, "srcnat": 100}
 MOST_DIGITS = 20  # of a number that any ruleset has
 EARLY = -200  # filter chains of prerouting up to here run before connections are looked for
 
@@ -51,7 +31,7 @@ class Rule:
         self.number = number
         self.line = tokens[0].line
         self.tokens = tokens
-        self.text = "".join((" " if token.parted else "") + token.text for token in tokens).strip()
+        self.text = "".join((" " if token.is_parted else "") + token.text for token in tokens).strip()
         self.words = list(statement_words(tokens))
         self.decides = any(word in VERDICTS + TRANSLATIONS for word in self.words)
         self.logs = "log" in self.words
@@ -166,19 +146,9 @@ def rules_of(text: str) -> list[Rule]:
     return Ruleset(text).rules
 
 
-def tokens_of(text: str) -> Iterator[Token]:
-    """The tokens of a ruleset; `parted` tells whether something stands before one."""
-    line, parted = 1, False
-    for match in TOKEN.finditer(text):
-        if match.lastgroup != "blank":
-            yield Token(match.lastgroup or "", match.group(), line, parted)
-        parted = match.lastgroup in ("blank", "newline")
-        line += match.group().count("\n")
-
-
 def blocks_of(text: str) -> Iterator[Chain | NamedSet]:
     """The chains, sets and maps of all tables, in the order of the text."""
-    tokens = list(tokens_of(text))
+    tokens = list(tokens_in(Source("", text)))
     table = None
     position = 0
     while position < len(tokens):
@@ -256,8 +226,8 @@ def priority_of(texts: Sequence[str]) -> int:
     for text in texts:
         if text in "+-":
             sign = -1 if text == "-" else 1
-        elif text in PRIORITIES:
-            total += PRIORITIES[text]
+        elif text in NFT.priorities:
+            total += NFT.priorities[text]
         elif text.isdecimal() and len(text) <= MOST_DIGITS:
             total += sign * int(text)
     return total
@@ -291,7 +261,7 @@ def behind_value(tokens: list[Token], position: int) -> int:
         position += 1
     if texts[position] in ("map", "vmap") and texts[position + 1] in ("@", "{"):
         return position
-    while position < len(tokens) and tokens[position].kind == "word":
+    while position < len(tokens) and tokens[position].kind in ("word", "wild"):
         position += 1
         if texts[position] not in (",", "-"):
             break

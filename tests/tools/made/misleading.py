@@ -15,63 +15,63 @@ Times are in seconds. All but `mirrored`, `repeated` and `uplink` fit tests/tool
   let-in         SYN, SYN and ACK, ACK of a connection from outside to 192.168.1.20 port 443, each with its copy
   earlier        an answer to UDP port 61000 of the router, which leaves to a host inside, and what that one says then
   uplink         a packet of a host of lan leaves by an interface of index 9, its answer comes by that one
-  table          a table of connections: at 1 to 5 a host begins one each second, at 4.5 and 5.5 another one, by UDP; at 303 the
-                 second host begins one more, by then the first two have expired
+  table          a table of connections: at 1 to 5 a host begins one each second, at 4.5 and 5.5 another one, by UDP; at
+                 303 the second host begins one more, by then the first two have expired
 """
+from __future__ import annotations
+
 import struct
 import sys
+from typing import Callable, Iterable, Iterator
 
-from capture import COMES, HOSTS, LAN, LEAVES, ROUTER, SERVER, WAN, header, sll2, total, udp
+from capture import (
+    COMES, HOSTS, LAN, LEAVES, ROUTER, SERVER, WAN, End, Sight, header, ip, pseudo, record, sll2, total, udp)
 
-OUTSIDE = ("198.51.100.9", 45000)
+OUTSIDE = End("198.51.100.9", 45000)
 SYN, ACK, SYN_ACK, PUSH = 2, 16, 18, 24
 UNKNOWN, UPLINK = 7, 9  # interfaces
 
 
-def tcp(source, destination, ttl, flags, sequence, number):
+def tcp(source: End, destination: End, ttl: int, flags: int, sequence: int, number: int) -> bytes:
     """An IPv4 packet of TCP, with 10 bytes of zero where it pushes data."""
     data = bytes(10) if flags == PUSH else b""
-    ends = b"".join(bytes(map(int, address.split("."))) for address, _ in (source, destination))
-    body = struct.pack(">HHIIBBHHH", source[1], destination[1], sequence, 1, 80, flags, 512, 0, 0) + data
-    check = total(ends + struct.pack(">HH", 6, len(body)) + body)
-    body = body[:16] + struct.pack(">H", check) + body[18:]
-    head = struct.pack(">BBHHHBBH", 69, 0, 20 + len(body), number, 0, ttl, 6, 0) + ends
-    return head[:10] + struct.pack(">H", total(head)) + head[12:] + body
+    body = struct.pack(">HHIIBBHHH", source.port, destination.port, sequence, 1, 80, flags, 512, 0, 0) + data
+    check = total(pseudo(source, destination, 6, len(body)) + body)
+    return ip(source, destination, ttl, 6, number, body[:16] + struct.pack(">H", check) + body[18:])
 
 
-def record(seconds, data):
-    whole, rest = divmod(round(seconds * 10**6), 10**6)
-    return struct.pack("<IIII", whole, rest * 1000, len(data), len(data)) + data
+def asked(seconds: float, host: End) -> Sight:
+    """A question of a host."""
+    return Sight(seconds, LAN, COMES, udp(host, SERVER, 64))
 
 
-def asking(*moments):
-    """Questions of the hosts, by (seconds, which host)."""
-    return [(seconds, LAN, COMES, udp(HOSTS[host], SERVER, 64)) for seconds, host in moments]
+def asking(host: End, *moments: float) -> list[Sight]:
+    return [asked(seconds, host) for seconds in moments]
 
 
-def both(seconds, enters, leaves, came, left):
+def both(seconds: float, enters: int, leaves: int, came: bytes, left: bytes) -> list[Sight]:
     """A packet that comes, and its copy."""
-    return [(seconds, enters, COMES, came), (seconds, leaves, LEAVES, left)]
+    return [Sight(seconds, enters, COMES, came), Sight(seconds, leaves, LEAVES, left)]
 
 
-def to_the_box():
-    client, box = OUTSIDE, (ROUTER, 22)
-    yield 1, WAN, COMES, tcp(client, box, 60, SYN, 1, 1)
-    yield 1.1, WAN, LEAVES, tcp(box, client, 64, SYN_ACK, 9, 1)
+def to_the_box() -> Iterator[Sight]:
+    client, box = OUTSIDE, End(ROUTER, 22)
+    yield Sight(1, WAN, COMES, tcp(client, box, 60, SYN, 1, 1))
+    yield Sight(1.1, WAN, LEAVES, tcp(box, client, 64, SYN_ACK, 9, 1))
     for number, flags in ((2, ACK), (3, PUSH), (4, PUSH)):
-        yield number, WAN, COMES, tcp(client, box, 60, flags, number, number)
-    yield 5, WAN, LEAVES, tcp(box, client, 64, ACK, 10, 2)
+        yield Sight(number, WAN, COMES, tcp(client, box, 60, flags, number, number))
+    yield Sight(5, WAN, LEAVES, tcp(box, client, 64, ACK, 10, 2))
 
 
-def no_address():
+def no_address() -> Iterator[Sight]:
     for number in range(4):
-        source = ("10.9.0.2", 5000 + number)
-        yield from both(1 + number, UNKNOWN, WAN, udp(source, SERVER, 64), udp((ROUTER, 5000 + number), SERVER, 63))
-    yield 9, UNKNOWN, COMES, udp(("10.9.0.2", 6000), SERVER, 64)
+        source, outside = End("10.9.0.2", 5000 + number), End(ROUTER, 5000 + number)
+        yield from both(1 + number, UNKNOWN, WAN, udp(source, SERVER, 64), udp(outside, SERVER, 63))
+    yield Sight(9, UNKNOWN, COMES, udp(End("10.9.0.2", 6000), SERVER, 64))
 
 
-def let_in():
-    inside = ("192.168.1.20", 443)
+def let_in() -> Iterator[Sight]:
+    inside = End("192.168.1.20", 443)
     for number, (flags, enters, leaves) in enumerate(((SYN, WAN, LAN), (SYN_ACK, LAN, WAN), (ACK, WAN, LAN)), 1):
         source, destination = (inside, OUTSIDE) if enters == LAN else (OUTSIDE, inside)
         sequence = number + 10 * (enters == LAN)
@@ -79,43 +79,45 @@ def let_in():
                         tcp(source, destination, 63, flags, sequence, number))
 
 
-def earlier():
-    outside, inside = (ROUTER, 61000), ("192.168.1.10", 4500)
+def earlier() -> Iterator[Sight]:
+    outside, inside = End(ROUTER, 61000), End("192.168.1.10", 4500)
     for seconds in (1, 3):
         yield from both(seconds, WAN, LAN, udp(SERVER, outside, 64), udp(SERVER, inside, 63))
         yield from both(seconds + 1, LAN, WAN, udp(inside, SERVER, 64), udp(outside, SERVER, 63))
 
 
-def uplink():
-    outside = ("192.0.2.1", HOSTS[0][1])
+def uplink() -> Iterator[Sight]:
+    outside = End("192.0.2.1", HOSTS[0].port)
     yield from both(1, LAN, UPLINK, udp(HOSTS[0], SERVER, 64), udp(outside, SERVER, 63))
     yield from both(2, UPLINK, LAN, udp(SERVER, outside, 64), udp(SERVER, HOSTS[0], 63))
 
 
-def table():
-    (first, port), (second, _) = HOSTS
-    for seconds, address, number in ((1, first, 0), (2, first, 1), (3, first, 2), (4, first, 3), (4.5, second, 4), (5, first, 5),
-                                     (5.5, second, 6), (303, second, 7)):
-        yield seconds, LAN, COMES, udp((address, port + number), SERVER, 64)
+def table() -> Iterator[Sight]:
+    first, second = HOSTS
+    for number, (seconds, host) in enumerate((
+            (1, first), (2, first), (3, first), (4, first), (4.5, second), (5, first), (5.5, second), (303, second))):
+        yield asked(seconds, End(host.address, first.port + number))
 
 
-KINDS = {
-    "clock-forward": lambda: asking((10, 0), (11, 0), (20, 1), (3612, 0), (3613, 0)),
-    "clock-quiet": lambda: asking((10, 0), (11, 0), (3612, 1)),
-    "clock-back": lambda: asking((1000, 0), (1001, 0), (901, 0), (902, 0)),
-    "clock-shaken": lambda: asking((1000, 0), (1001, 0), (1000.999, 0), (1002, 0)),
-    "to-the-box": to_the_box, "no-address": no_address, "let-in": let_in, "earlier": earlier, "uplink": uplink, "table": table}
+FIRST, OTHER = HOSTS
+KINDS: dict[str, Callable[[], Iterable[Sight]]] = {
+    "clock-forward": lambda: [*asking(FIRST, 10, 11), asked(20, OTHER), *asking(FIRST, 3612, 3613)],
+    "clock-quiet": lambda: [*asking(FIRST, 10, 11), asked(3612, OTHER)],
+    "clock-back": lambda: asking(FIRST, 1000, 1001, 901, 902),
+    "clock-shaken": lambda: asking(FIRST, 1000, 1001, 1000.999, 1002),
+    "to-the-box": to_the_box, "no-address": no_address, "let-in": let_in, "earlier": earlier, "uplink": uplink,
+    "table": table}
 
 
-def capture(kind):
+def capture(kind: str) -> bytes:
     if kind in ("mirrored", "repeated"):
         frame = bytes.fromhex("020000000001" "020000000002" "0800")
-        packets = [udp((HOSTS[0][0], 5000 + number), SERVER, 64) for number in range(4)]
+        packets = [udp(End(FIRST.address, 5000 + number), SERVER, 64) for number in range(4)]
         again = 0.00002 if kind == "mirrored" else 0.3
-        return header(1) + b"".join(
-            record(10 + number + later, frame + packet) for number, packet in enumerate(packets) for later in (0, again))
-    return header(276) + b"".join(
-        record(seconds, sll2(interface, way) + packet) for seconds, interface, way, packet in KINDS[kind]())
+        return header(1) + b"".join(record(10 + number + later, frame + packet)
+                                    for number, packet in enumerate(packets) for later in (0, again))
+    return header(276) + b"".join(record(one.seconds, sll2(one.interface, one.way) + one.packet)
+                                  for one in KINDS[kind]())
 
 
 sys.stdout.buffer.write(capture(sys.argv[1]))

@@ -1,5 +1,7 @@
 """Text for HTML and for the page's data. Names, comments and prefixes come from files of strangers: all of it goes
 through here."""
+from __future__ import annotations
+
 import base64
 import html
 import json
@@ -8,21 +10,22 @@ import zlib
 from toolbox.commands import printable
 
 
-def shown(text):
+def shown(text: object) -> str:
     """The text as HTML, also between double quotes; what isn't printable is spelled out."""
     return html.escape(printable(str(text)), quote=True)
 
 
-def number(value):
+def number(value: int) -> str:
     """12,345"""
     return f"{value:,}"
 
 
-def plural(value, word, words=None):
+def plural(value: int, word: str, words: str | None = None) -> str:
+    """1 packet, 12,345 packets"""
     return f"{number(value)} {word if value == 1 else words or word + 's'}"
 
 
-def clean(value):
+def clean(value: object) -> object:
     """The value for JSON, with what isn't printable in its strings spelled out."""
     if isinstance(value, str):
         return printable(value)
@@ -33,13 +36,13 @@ def clean(value):
     return value
 
 
-def packed(value):
+def packed(value: object) -> str:
     """The value as JSON, deflated, in base64: letters, digits, + / = alone."""
     data = json.dumps(clean(value), separators=(",", ":")).encode("ascii")
     return base64.b64encode(zlib.compress(data, 6)).decode("ascii")
 
 
-def seconds_text(nanoseconds):
+def seconds_text(nanoseconds: float) -> str:
     """1.6 s, 3 min 20 s, 2 h 5 min"""
     seconds = nanoseconds / 1e9
     if seconds < 60:

@@ -1,0 +1,1 @@
+"""What tries the page of nftrun page in a real browser."""
