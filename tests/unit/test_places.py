@@ -9,7 +9,7 @@ from dataclasses import dataclass
 from typing import Iterator
 
 from support import TOP
-from toolbox.lexer import Source, Token, tokens_in
+from toolbox.lexer import Token, tokens_of
 from toolbox.reports import DECISION, Decision, event_of
 from toolbox.rulesets import Rule, Ruleset
 
@@ -38,10 +38,6 @@ def places() -> Iterator[Place]:
     for name, line, column, code, table, chain, rule in PLACED.findall((FAULTS / "lines.txt").read_text("utf-8")):
         yield Place(name, int(line), int(column), code, f"{table} {chain}" if chain else None,
                     int(rule) if rule else None)
-
-
-def tokens_of(text: str) -> list[Token]:
-    return list(tokens_in(Source("", text)))
 
 
 def column_of(token: Token) -> int:

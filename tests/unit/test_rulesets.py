@@ -7,7 +7,7 @@ import support
 from toolbox.hits import Hits
 from toolbox.reach import never_met
 from toolbox.reports import Summary
-from toolbox.lexer import Source, tokens_in
+from toolbox.lexer import tokens_of
 from toolbox.rulesets import Ruleset, priority_of, read_ruleset
 
 TEXT = '''# first
@@ -73,7 +73,7 @@ class Reading(unittest.TestCase):
         self.assertEqual(priority_of(["-", "300"]), -300)
 
     def test_tokens_keep_all_but_blanks(self) -> None:
-        text = "".join(token.text for token in tokens_in(Source("", TEXT)))
+        text = "".join(token.text for token in tokens_of(TEXT))
         self.assertEqual(text.replace("\n", ""), "".join(
             line for line in TEXT.replace("# first", "").replace("\t", "").replace('"a; b { c"', "\0").replace(
                 '"ssh: "', "\1").replace(" ", "").replace("\0", '"a; b { c"').replace("\1", '"ssh: "').split("\n")))

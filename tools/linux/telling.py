@@ -8,7 +8,7 @@ from __future__ import annotations
 from dataclasses import dataclass
 from typing import Iterable, Iterator, Union
 
-from toolbox.lexer import Source, Token, tokens_in
+from toolbox.lexer import Token, tokens_of
 from toolbox.reports import Decision, Log, event_of, records_of
 from toolbox.rulesets import TRANSLATIONS, VERDICTS, statement_words
 
@@ -69,7 +69,7 @@ class RuleEnds:
 def rule_ends(text: str) -> Iterator[int]:
     """Where in a ruleset's text the rules that decide nothing end, before a comment of theirs."""
     ends = RuleEnds()
-    for token in tokens_in(Source("", text)):
+    for token in tokens_of(text):
         place = ends.take(token)
         if place is not None:
             yield place

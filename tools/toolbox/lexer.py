@@ -68,6 +68,11 @@ def is_six(text: str) -> bool:
         return False
 
 
+def tokens_of(text: str) -> list[Token]:
+    """All tokens of a text that stands in no file."""
+    return list(tokens_in(Source("", text)))
+
+
 def tokens_in(source: Source) -> Iterator[Token]:
     """All tokens of a text but blanks, in order."""
     at, line, text = 0, 1, source.text

@@ -9,7 +9,7 @@ from typing import Iterator, Sequence
 
 from toolbox.commands import Refused, read_text
 from toolbox.language import NFT
-from toolbox.lexer import Source, Token, tokens_in
+from toolbox.lexer import Token, tokens_of
 
 # Selectors whose values may be spelled like statements: an interface may be called `log`,
 # `redirect` is a type of ICMP, and `snat` a status.
@@ -148,7 +148,7 @@ def rules_of(text: str) -> list[Rule]:
 
 def blocks_of(text: str) -> Iterator[Chain | NamedSet]:
     """The chains, sets and maps of all tables, in the order of the text."""
-    tokens = list(tokens_in(Source("", text)))
+    tokens = tokens_of(text)
     table = None
     position = 0
     while position < len(tokens):

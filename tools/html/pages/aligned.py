@@ -12,7 +12,7 @@ from typing import TYPE_CHECKING, Hashable, Iterable, Iterator, Sequence, Tuple
 
 from pages.listing import lines_of
 from toolbox.evidence import rule_content
-from toolbox.rulesets import tokens_of
+from toolbox.lexer import tokens_of
 
 if TYPE_CHECKING:
     from toolbox.evidence import Change
