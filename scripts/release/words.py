@@ -25,6 +25,7 @@ TOOLS = (
     Tool("beside-linux", "beside-linux"),
     Tool("box-from-ip", "box-from-ip"),
     Tool("compare", "compare-rulesets"),
+    Tool("convert", "convert"),
     Tool("doctor", "doctor"),
     Tool("fit", "fit-ruleset"),
     Tool("packet", "packet"),

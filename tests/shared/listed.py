@@ -83,6 +83,8 @@ TESTS = (
     Test("fuzz", "fuzz/fuzz-program", Place.BY_HAND, "damaged rulesets, box files and captures (--runs N)"),
     Test("fuzz-tools", "fuzz/fuzz-tools", Place.BY_HAND, "damaged inputs of all commands (--runs N)",
          Wanted.NONE),
+    Test("fresh-root", "install/test-fresh-root", Place.BY_HAND, "a package on a fresh Debian (root, network)",
+         Wanted.NONE),
     Test("linux-sections", "linux/check-sections", Place.BY_HAND, "docs/LINUX.md beside this kernel (root)",
          Wanted.NONE),
     Test("linux-warnings", "linux/check-warnings", Place.BY_HAND, "rulesets that nft refuses, by nft (root)",

@@ -6,6 +6,7 @@ The commands run in this process; nftrun is the one that NFTRUN names, or a stan
 from __future__ import annotations
 
 import contextlib
+import gzip
 import io
 import os
 import pathlib
@@ -21,6 +22,7 @@ from dataclasses import dataclass, field
 from typing import Callable, Iterator, Sequence
 from unittest import mock
 
+from blocks import Writer
 from linux.frames import nothing
 from linux.question import Heard, Question
 from linux.seen import Fate, Place, Told
@@ -78,6 +80,11 @@ CALLS = (
     Call("report-to-json", (RULES, BOX, CAPTURE), statuses=(DONE, REFUSED, TORN)),
     Call("report-to-json", (REPORT,), statuses=(DONE, REFUSED, TORN)),
     Call("report-to-json", (), statuses=(DONE, REFUSED, TORN), reads=REPORT),
+    Call("report-to-json", ("--prometheus", RULES, BOX, CAPTURE), statuses=(DONE, REFUSED, TORN)),
+    Call("report-to-json", ("--prometheus",), statuses=(DONE, REFUSED, TORN), reads=REPORT),
+    Call("report-to-json", ("--pcapng", RULES, BOX, CAPTURE), statuses=(DONE, REFUSED, TORN), is_data=True),
+    Call("convert", ("--box", BOX, CAPTURE), statuses=(DONE, REFUSED, TORN), is_data=True),
+    Call("convert", (CAPTURE,), statuses=(DONE, REFUSED, TORN), is_data=True),
     Call("page", (RULES, BOX, CAPTURE), statuses=(DONE, REFUSED, TORN)),
     Call("page", ("--against", OTHER_RULES, "--map", MAP, RULES, BOX, CAPTURE), statuses=(DONE, REFUSED, TORN)),
     Call("beside-copies", ("--list", RULES, BOX, CAPTURE, LISTING), "alone [1-9]|by the run alone [1-9]|^! ",
@@ -215,7 +222,50 @@ def packet_changed(data: bytearray, chance: random.Random) -> None:
 OF_CAPTURES = (flipped, cut, less, doubled, mixed_in, field_changed, field_changed, packet_changed, packet_changed)
 
 
+def block_changed(data: bytearray, chance: random.Random) -> None:
+    """Another number in a block of pcapng, or in the descriptions of its interfaces."""
+    place = 4 * chance.randrange(max(1, min(len(data), 4000) // 4))
+    known = 0, 1, 2, 3, 5, 6, 9, 12, 101, 113, 262145, 0x0A0D0D0A, 0xFFFFFFFF
+    value = chance.choice((*known, chance.randrange(1 << 32)))
+    data[place:place + chance.choice((1, 2, 4))] = struct.pack("<I", value)[:chance.choice((1, 2, 4))]
+
+
+OF_PCAPNG = (flipped, cut, less, doubled, block_changed, block_changed, block_changed)
+
+
+def in_another_format(data: bytes, chance: random.Random) -> bytes:
+    """A capture as pcapng, of gzip, or both, damaged in between or not at all."""
+    if chance.random() < 0.6:
+        data = as_pcapng(data, chance)
+        changed = bytearray(data)
+        if chance.random() < 0.8:
+            chance.choice(OF_PCAPNG)(changed, chance)
+        data = bytes(changed)
+    if chance.random() < 0.4:
+        packed = bytearray(gzip.compress(data, mtime=0))
+        if chance.random() < 0.5:
+            chance.choice((flipped, cut, less, doubled))(packed, chance)
+        data = bytes(packed)
+    return data
+
+
+def as_pcapng(data: bytes, chance: random.Random) -> bytes:
+    """The whole records of a classic capture, lowest byte first, of one interface or of two with a direction."""
+    made, link_type, at = Writer(chance.choice("<>")), struct.unpack_from("<I", data, 20)[0], 24
+    names = chance.choice((("lan",), ("wan",), ("lan", "wan"), ("eth0", "lan")))
+    parts = [made.section(), *(made.interface(link_type, made.name(name), made.resolution(9)) for name in names)]
+    while at + 16 <= len(data):
+        seconds, fraction, length, _ = struct.unpack_from("<4I", data, at)
+        told = made.flags(chance.choice((1, 1, 2, 17)))
+        packet = data[at + 16:at + 16 + length]
+        parts.append(made.packet(chance.randrange(len(names)), seconds * 10**9 + fraction, packet, told))
+        at += 16 + length
+    return b"".join(parts)
+
+
 def damaged(data: bytes, is_capture: bool, chance: random.Random) -> bytes:
+    if is_capture and chance.random() < 0.3:
+        return in_another_format(data, chance)
     changed = bytearray(data)
     for _ in range(chance.choice((1, 1, 1, 2, 3))):
         if changed:

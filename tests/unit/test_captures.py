@@ -47,7 +47,7 @@ class Reading(FilesCase):
 
     def test_refused(self) -> None:
         data = base64.b64decode(ROUTER)
-        with self.assertRaisesRegex(Refused, "no classic libpcap file"):
+        with self.assertRaisesRegex(Refused, "no capture of libpcap or pcapng"):
             captures.header_of(self.file("a", b"\x0a\x0d\x0d\x0a" + data[4:]))
         with self.assertRaisesRegex(Refused, "link type 113"):
             captures.header_of(self.file("b", data[:20] + b"\x71\0\0\0" + data[24:]))

@@ -6,6 +6,7 @@ import platform
 import shutil
 import time
 from collections import Counter
+from dataclasses import replace
 from typing import Iterator, Sequence, Sized
 
 from linux.differences import CounterDifference, Difference, Kind, counter_differences, kinds_of
@@ -18,6 +19,7 @@ from linux.sections import title
 from linux.seen import Fate, Packet, Said, Told
 from toolbox.captures import IPV4, IPV6, LINK_LENGTHS, PROTOCOL_AT, header_of, records
 from toolbox.commands import Refused, check_files, plural, say
+from toolbox.converted import classic
 from toolbox.packets import describe
 from toolbox.reports import Decision, RuleCounter
 
@@ -234,8 +236,9 @@ def beside_linux(options: Options) -> int:
     """Compares, and tells; answers the status."""
     check_files((options.rules, options.box, options.capture))
     check_needs()
-    question = question_of(options)
-    beside = Beside(question, heard_from_kernel(question))
-    for line in lines_of(beside):
-        say(line)
+    with classic(options.capture, options.box) as read:
+        question = question_of(replace(options, capture=read))
+        beside = Beside(question, heard_from_kernel(question))
+        for line in lines_of(beside):
+            say(line)
     return beside.status()

@@ -7,7 +7,7 @@ from typing import Iterable, Iterator, Sequence
 
 from linux.differences import CounterDifference, counter_differences
 from toolbox.boxes import Box
-from toolbox.captures import LINK_LENGTHS, LINUX_SLL2, SENT_BY_US, TO_US, header_of, packet_at, records
+from toolbox.captures import LINK_LENGTHS, LINUX_SLL2, SENT_BY_US, TO_US, called, header_of, packet_at, records
 from toolbox.commands import Refused
 from toolbox.packets import describe, identity, without_ports
 from toolbox.reports import RuleCounter
@@ -50,7 +50,7 @@ class Copies:
 
     def __init__(self, capture: str, box: Box) -> None:
         if header_of(capture).link_type != LINUX_SLL2:
-            raise Refused(f"{capture}: a capture of another link type than LINUX_SLL2 has no outgoing copies")
+            raise Refused(f"{called(capture)}: a capture of another link type than LINUX_SLL2 has no outgoing copies")
         came: Counter[bytes] = Counter()
         indices = box.index_bytes()
         self.forwarded: list[Copy] = []
@@ -67,7 +67,7 @@ class Copies:
             elif data[10] == SENT_BY_US:
                 self.own += 1
         if not self.forwarded:
-            raise Refused(f"{capture}: no outgoing copies of packets that came")
+            raise Refused(f"{called(capture)}: no outgoing copies of packets that came")
 
 
 def likeness(forwarded: Sequence[Copy], leaving: str) -> Likeness:

@@ -10,7 +10,7 @@ from linux.frames import LARGEST_PACKET
 from linux.nftrun import Run, run_of
 from linux.seen import Told
 from toolbox import program
-from toolbox.captures import header_of, records
+from toolbox.captures import called, header_of, records
 from toolbox.commands import Refused
 from toolbox.reports import RuleCounter
 from toolbox.rulesets import Ruleset, read_ruleset
@@ -74,7 +74,7 @@ def moments(path: str, most: int) -> Iterator[Record]:
     header, latest = header_of(path), 0
     for number, seconds, fraction, _, _, _, data in records(path, MOST_BYTES):
         if number > most:
-            raise Refused(f"{path}: over {most} records; cut it, or say --records")
+            raise Refused(f"{called(path)}: over {most} records; cut it, or say --records")
         latest = max(latest, seconds * 10**9 + fraction * 10**9 // header.fractions)
         yield Record(number, latest, data)
 
@@ -84,6 +84,6 @@ def question_of(options: Options) -> Question:
     box, ruleset = LabBox(options.box), read_ruleset(options.rules)
     link_type, taken = header_of(options.capture).link_type, list(moments(options.capture, options.records))
     if not taken:
-        raise Refused(f"{options.capture}: nothing was compared: no whole record is in it")
+        raise Refused(f"{called(options.capture)}: nothing was compared: no whole record is in it")
     run = run_of(program.find_program(), options.rules, options.box, options.capture)
     return Question(options, box, ruleset, link_type, taken, run)

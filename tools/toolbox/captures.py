@@ -4,7 +4,7 @@ from __future__ import annotations
 import os
 import struct
 from dataclasses import dataclass
-from typing import BinaryIO, Callable, Iterator, List, Tuple, cast
+from typing import BinaryIO, Callable, Dict, Iterator, List, Tuple, cast
 
 from toolbox.commands import Refused
 
@@ -37,6 +37,20 @@ Piece = Tuple[bytes, int, List[int], List[RecordHeader]]
 Record = Tuple[int, int, int, int, int, int, bytes]
 
 
+# What the operator calls a capture that was made of another one, by its path
+_called: Dict[str, str] = {}
+
+
+def call(path: str, name: str) -> None:
+    """Has messages call a capture so."""
+    _called[path] = name
+
+
+def called(path: str) -> str:
+    """What messages call a capture: the file that the operator named, where this one was made of it."""
+    return _called.get(path, path)
+
+
 @dataclass(frozen=True)
 class Header:
     """What the header of a capture says: the order of its numbers, as `struct` has it, how many fractions make a
@@ -57,11 +71,11 @@ def header_of(path: str) -> Header:
     except OSError as error:
         raise Refused(f"{path}: {error.strerror}") from None
     if data[:4] not in MAGICS or len(data) < FILE_HEADER:
-        raise Refused(f"{path}: no classic libpcap file (docs/CAPTURES.md tells how to make one)")
+        raise Refused(f"{called(path)}: no capture of libpcap or pcapng (docs/CAPTURES.md tells how to make one)")
     order, fractions = MAGICS[data[:4]]
     _, sigfigs, snaplen, link_type = struct.unpack_from(order + "4I", data, 8)
     if link_type & 0xFFFF not in LINK_LENGTHS:
-        raise Refused(f"{path}: link type {link_type & 0xFFFF}, which nftrun doesn't read")
+        raise Refused(f"{called(path)}: link type {link_type & 0xFFFF}, which nftrun doesn't read")
     return Header(order, fractions, link_type & 0xFFFF, snaplen, sigfigs == ALIGNED_MARK)
 
 
@@ -91,7 +105,8 @@ def pieces(path: str) -> Iterator[Piece]:
             number += len(starts)
             yield piece, base, starts, headers
             if length > SNAPLEN:
-                raise Refused(f"{path}: record {number + 1} claims {length} bytes: the file is damaged there")
+                raise Refused(
+                    f"{called(path)}: record {number + 1} claims {length} bytes: the file is damaged there")
             base, rest = base + at, piece[at:]
 
 

@@ -5,6 +5,7 @@ from dataclasses import dataclass
 from difflib import SequenceMatcher
 from typing import TYPE_CHECKING, Iterator
 
+from toolbox.captures import called
 from toolbox.commands import plural
 from toolbox.hits import Hits
 from toolbox.reports import Summary
@@ -23,7 +24,8 @@ UNSEEN = {
 
 def torn_text(path: str, records: int) -> str:
     """That a capture is torn behind so many whole records."""
-    return f"{path}: torn: it ends within record {records + 1}, and what is told is of the whole records before that"
+    return (f"{called(path)}: torn: it ends within record {records + 1}, and what is told is of the whole records "
+            "before that")
 
 
 def torn_flows(flows: Flows) -> str | None:

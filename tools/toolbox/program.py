@@ -8,6 +8,7 @@ import subprocess
 import tempfile
 from typing import Iterator, Sequence
 
+from toolbox.captures import called
 from toolbox.commands import DONE, TORN, Refused, signals
 
 BUILT = os.path.join(os.path.dirname(os.path.abspath(__file__)), "..", "..", "crates", "nftrun", "out", "nftrun")
@@ -37,7 +38,7 @@ def run(
     status, errors = run_child(command)
     if status not in (DONE, TORN):
         ended = f"{program} ended with status {status}"
-        raise Refused(f"the run of {rules} over {capture}: {errors or ended}")
+        raise Refused(f"the run of {rules} over {called(capture)}: {errors or ended}")
     return status == TORN
 
 

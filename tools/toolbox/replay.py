@@ -14,7 +14,7 @@ from array import array
 from typing import TYPE_CHECKING, Iterator
 
 from toolbox import program
-from toolbox.captures import LINK_LENGTHS, LINUX_SLL2, OTHER_STATION, RAW_IP, header_of, pieces, records
+from toolbox.captures import LINK_LENGTHS, LINUX_SLL2, OTHER_STATION, RAW_IP, called, header_of, pieces, records
 from toolbox.commands import Refused
 from toolbox.flows import BEGUN, ERROR, OPENER, OWN, SAW_SYN_ACK, SIDE, SYN_ACK, TRANSLATED
 from toolbox.packets import PORTED, TCP, USUAL_HEADER, destination_end, inverse, source_end, tuple_at, with_destination
@@ -76,7 +76,7 @@ class Replay:
         program.run(self.program, self.rules, self.box, capture, self.files.leaving, self.files.report)
         self.outcomes = outcomes_of(self.files.report, self.names)
         if len(self.outcomes) != self.flows.count + 1:
-            raise Refused(f"{self.flows.path} has {self.flows.count} records, and the report on {self.rules} "
+            raise Refused(f"{called(self.flows.path)} has {self.flows.count} records, and the report on {self.rules} "
                           f"{len(self.outcomes) - 1}")
 
     def decide(self, cuts: bool) -> Decisions:

@@ -7,7 +7,7 @@ from typing import TYPE_CHECKING
 from toolbox.asked import Asked, chosen_of
 from toolbox.boxes import Box
 from toolbox.captures import (
-    LINK_LENGTHS, LINUX_SLL2, RECORD_HEADER, SENT_BY_US, header_of, interface_of, packet_at, records)
+    LINK_LENGTHS, LINUX_SLL2, RECORD_HEADER, SENT_BY_US, called, header_of, interface_of, packet_at, records)
 from toolbox.commands import Refused
 from toolbox.flows import Flows
 from toolbox.packets import TCP, describe, destination_end, end_text, flags_text, inverse, source_end, tuple_at
@@ -37,9 +37,9 @@ class Why:
         if isinstance(record, Asked):
             self.fitting = record.found(capture, self.header)
             if not self.fitting:
-                raise Refused(f"{capture}: no record fits {record.text}")
+                raise Refused(f"{called(capture)}: no record fits {record.text}")
         elif not 1 <= record <= self.flows.count:
-            raise Refused(f"{capture} has {self.flows.count} records, and no record {record}")
+            raise Refused(f"{called(capture)} has {self.flows.count} records, and no record {record}")
         self.replay = Replay(program, rules, box, self.flows, files, cuts=False, as_captured=True)
         if isinstance(record, Asked):
             self.dropped = {one.record for one in self.fitting

@@ -2,7 +2,7 @@
 from __future__ import annotations
 
 import os
-from dataclasses import dataclass
+from dataclasses import dataclass, replace
 from typing import TYPE_CHECKING, TextIO
 
 from pages.change import Change, both_html, html_of
@@ -14,7 +14,9 @@ from pages.texts import number, packed, plural, seconds_text, shown
 from pages.ways import ways_html
 from toolbox import rulemap
 from toolbox.boxes import Box
+from toolbox.captures import called
 from toolbox.commands import DONE, REFUSED, TORN, Refused, check_files, read_bytes, remark
+from toolbox.converted import classic
 from toolbox.evidence import torn_text
 from toolbox.program import workspace
 from toolbox.rulesets import read_ruleset
@@ -53,7 +55,7 @@ class Page:
         self.texts = self.change.texts(self.model.rule_hits(), folder) if self.change else None
 
     def html(self) -> str:
-        rules, capture = (os.path.basename(path) for path in (self.options.rules, self.options.capture))
+        rules, capture = (os.path.basename(path) for path in (self.options.rules, called(self.options.capture)))
         parts = [self.header_html(rules, capture)]
         if self.change and self.texts:
             old = os.path.basename(self.options.against or "")
@@ -158,8 +160,8 @@ def page(options: Options, output: TextIO) -> int:
     """Writes the page, and gives the status."""
     paths = [options.rules, options.box, options.capture, *filter(None, (options.against, options.map))]
     check_files(paths)
-    with workspace() as folder:
-        made = Page(options, folder)
+    with classic(options.capture, options.box) as read, workspace() as folder:
+        made = Page(replace(options, capture=read), folder)
         output.write(made.html())
     if made.model.torn:
         remark("page", torn_text(options.capture, made.model.count))
