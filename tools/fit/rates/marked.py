@@ -5,6 +5,7 @@ from __future__ import annotations
 
 import os
 import re
+import string
 from dataclasses import dataclass
 from functools import cached_property
 from ipaddress import IPv4Address
@@ -210,12 +211,11 @@ class Marked:
 
 
 def free_prefix(text: str, box: Box) -> str:
-    """The beginning of names that no rule and no interface has."""
+    """The beginning of names that no rule and no interface has, and that no rule's `name*` covers."""
     begun = [it.rstrip("*") for it in re.findall(r'"([^"\n]*\*)"', text)]
-    number = 1
-    while True:
-        prefix = f"marked{number if number > 1 else ''}."
+    for first in ("", *string.ascii_letters):
+        prefix = f"{first}marked."
         if prefix not in text and not any(it.startswith(prefix) for it in box.indices) and not any(
                 it and (prefix.startswith(it) or it.startswith(prefix)) for it in begun):
             return prefix
-        number += 1
+    raise Refused("no names are left for interfaces that stand for marked records")

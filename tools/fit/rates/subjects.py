@@ -5,6 +5,7 @@ from __future__ import annotations
 from dataclasses import dataclass
 from typing import TYPE_CHECKING, Iterator, Mapping, Sequence, Union
 
+from ..expressions import as_number
 from ..scanner import place
 from ..tree import (
     Bound,
@@ -112,8 +113,8 @@ class Again(Exception):
 
 
 class Subjects:
-    """Finds them, but for those of `without`; `probes` are those found, `sets` the sets that are replayed, `indices` the
-    box's interfaces."""
+    """Finds them, but for those of `without`: `probes`, and `sets` that are replayed. `indices` has the box's
+    interfaces."""
 
     def __init__(self, indices: Mapping[str, int], without: frozenset[Subject] = frozenset()) -> None:
         self.indices, self.without = indices, without
@@ -141,11 +142,12 @@ class Subjects:
 
     def set_terms(self, fitter: Fitter, table: Table, name: SetName) -> SetTerms:
         """What is known of a set; NotFitted where it, or a rule that names it, can't be replayed."""
-        keys = [self.key_asked(chain, it, name) for other, chain, rule in fitter.rules() if other is table
-                for it in self.naming(rule, name)]
+        naming = [(chain, it) for other, chain, rule in fitter.rules() if other is table
+                  for it in self.naming(rule, name)]
+        keys = [self.key_asked(chain, it, name) for chain, it in naming]
         found = table.sets.get(name.name)
-        if found is None:  # of a meter
-            return SetTerms(USUAL_SIZE, None, ())
+        if found is None:
+            return SetTerms(meter_size(naming[0][1]), None, ())
         if found.is_map or found.fault:
             raise NotFitted("a map")
         head = head_of(found)
@@ -286,6 +288,12 @@ def change_asked(it: Statement) -> Asked:
     """What stands behind the key in what is added: within the braces, or in the older spelling before the name."""
     words = [one.text for one in it.tokens]
     return asked_of(words[words.index("{"):] if "{" in words else words[2:words.index("@")])
+
+
+def meter_size(it: Statement) -> int:
+    """`meter NAME size SIZE { .. }`"""
+    words = [one.text for one in it.tokens[:4]]
+    return as_number(words[3]) if words[2:3] == ["size"] else USUAL_SIZE
 
 
 def head_of(found: Set) -> Asked:
