@@ -390,10 +390,9 @@ class Rounds(RatesCase):
             given = run.rated(found, fitted.text, str(self.folder / "in.pcap"), box, self.work())
         # the first lets by what comes at 0 and 1.2; of the rest 0.1 and 0.2 are below the second, 0.3 is above, and at
         # 1.3 there is 1 s again
-        rules = f"{self.folder}/rules.nft"
-        self.assertEqual(given.lines, [
-            f"{rules}:4: limit rate 1/second burst 1 packets: rate_1: 6 records come, and the rule stops for 4: 2 3 4 6",
-            f"{rules}:5: limit rate 1/second burst 2 packets: rate_2: 4 records come, and the rule stops for 1: 4"])
+        self.assertEqual([it.partition("rules.nft:")[2] for it in given.lines], [
+            "4: limit rate 1/second burst 1 packets: rate_1: 6 records come, and the rule stops for 4: 2 3 4 6",
+            "5: limit rate 1/second burst 2 packets: rate_2: 4 records come, and the rule stops for 1: 4"])
         self.assertIn('type ifname\n\t\telements = { "marked.1", "marked.2" }', given.text)
         self.assertIn("udp dport 1 iifname != @rate_1 accept", given.text)
         indices = [captures.interface_of(it, captures.LINUX_SLL2) for *_, it in captures.records(given.files.capture)]

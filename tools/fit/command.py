@@ -115,7 +115,8 @@ def parsed_arguments() -> argparse.Namespace:
         formatter_class=argparse.RawDescriptionHelpFormatter,
         description="Rewrites a ruleset that nft(8) takes into the language of nftrun, and tells on standard error "
         "what\nit changed.",
-        epilog="Status: 0 FITTED is written, 1 a change is worse than --at-most, 2 refused.\n"
+        epilog="Status: 0 FITTED is written, 1 a change is worse than --at-most, 2 refused; with --rates also where\n"
+        "nothing is replayed, or marks of records can't say what is.\n"
         "docs/FIT.md has the constructs.\n"
         f"--assume: {listed()}",
     )
