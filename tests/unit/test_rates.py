@@ -141,6 +141,8 @@ class Sets(unittest.TestCase):
     def test_bounds_of_the_set(self) -> None:
         found = self.made(bounds=[terms.Quota(False, 50, 0)])
         self.assertEqual([found.add((1,), None, (), False, at(0, 30)) for _ in range(2)], [True, False])
+        # where it isn't wanted, an element that is there stops the rule, whatever it bounds
+        self.assertEqual([found.look_up((it,), at(1), is_not=True) for it in (1, 2)], [False, True])
 
     def test_listed(self) -> None:
         found = self.made(listed=[elements.Listed((1,), 3 * SECOND, ()), elements.Listed((2,), None, ())])

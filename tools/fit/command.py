@@ -140,6 +140,11 @@ def parsed_arguments() -> argparse.Namespace:
         metavar="IN",
         help="tries each guess both ways over the capture IN, which wants --box; writes no ruleset",
     )
+    add_rates(parser)
+    return parser.parse_args()
+
+
+def add_rates(parser: argparse.ArgumentParser) -> None:
     parser.add_argument(
         "--rates",
         metavar="IN",
@@ -149,7 +154,6 @@ def parsed_arguments() -> argparse.Namespace:
     parser.add_argument(
         "--marks", metavar="FOLDER", help="takes the marked box.txt and in.pcap, with which alone FITTED is to be run"
     )
-    return parser.parse_args()
 
 
 def main() -> None:

@@ -73,10 +73,10 @@ class DynamicSet:
         found = self.held.get(key)
         return found if found is not None and found.is_there(moment) else None
 
-    def look_up(self, key: Key, arrival: Arrival) -> bool:
-        """`KEY @set`: whether the element is there, and its bounds let the packet by."""
+    def look_up(self, key: Key, arrival: Arrival, is_not: bool = False) -> bool:
+        """`KEY @set`: whether the element is there, and its bounds let the packet by. `KEY != @set` asks no bounds."""
         found = self.find(key, arrival.moment)
-        return found is not None and found.passes(arrival)
+        return found is None if is_not else found is not None and found.passes(arrival)
 
     def add(self, key: Key, timeout: int | None, bounds: Sequence[Terms], refreshes: bool, arrival: Arrival) -> bool:
         """`add` and `update`: whether the rule goes on. Only `update` sets the time of an element anew that is there;

@@ -70,7 +70,7 @@ class Kept:
             raise Refused(f"{probe.place}: {probe.text}: a packet came that hasn't got the key; this is a fault of fit")
         found = self.sets[ask.found]
         if not isinstance(ask, Change):
-            return found.look_up(key, arrival) != ask.is_not
+            return found.look_up(key, arrival, ask.is_not)
         if ask.word == "delete":
             found.delete(key)
             return True
