@@ -11,7 +11,8 @@ from typing import Mapping, Sequence, Tuple
 
 from toolbox import commands, rulemap
 from toolbox.outputs import check_output
-from toolbox.program import find_program, run_child
+from toolbox.boxes import Box
+from toolbox.program import find_program, run_child, workspace
 
 from .assumptions import ASSUMPTIONS, Assumptions, Guess, listed
 from .both import try_both
@@ -20,6 +21,8 @@ from .commands import Commands
 from .fitter import Fitter
 from .network import Network
 from .profile import SIZE, takes
+from .rates import run as rates
+from .rates.subjects import Again, Subject, Subjects
 from .scanner import Refused
 from .tree import Counter
 
@@ -44,13 +47,18 @@ class Fitted:
 
 
 def fit(
-    path: str, network: Network | None, chosen: Mapping[str, str] | None = None, only: Guess | None = None
+    path: str,
+    network: Network | None,
+    chosen: Mapping[str, str] | None = None,
+    only: Guess | None = None,
+    subjects: Subjects | None = None,
 ) -> Fitted:
-    """Fits the ruleset of a file. Refused where it can't be read; what can't be fitted is among the changes."""
+    """Fits the ruleset of a file. Refused where it can't be read; what can't be fitted is among the changes. With
+    `subjects` what asks rates is found, and becomes a match of marks."""
     changes, assumptions = Changes(), Assumptions(chosen, only)
     read = Commands(changes)
     source = read.read(path)
-    fitter = Fitter(read, assumptions, network)
+    fitter = Fitter(read, assumptions, network, subjects)
     body = fitter.run()
     if not changes.list and takes(source.text, "ruleset"):
         return Fitted(source.text, plain_rows(fitter), changes, assumptions, True)
@@ -107,7 +115,8 @@ def parsed_arguments() -> argparse.Namespace:
         formatter_class=argparse.RawDescriptionHelpFormatter,
         description="Rewrites a ruleset that nft(8) takes into the language of nftrun, and tells on standard error "
         "what\nit changed.",
-        epilog="Status: 0 FITTED is written, 1 a change is worse than --at-most, 2 refused.\n"
+        epilog="Status: 0 FITTED is written, 1 a change is worse than --at-most, 2 refused; with --rates also where\n"
+        "nothing is replayed, or marks of records can't say what is.\n"
         "docs/FIT.md has the constructs.\n"
         f"--assume: {listed()}",
     )
@@ -131,7 +140,20 @@ def parsed_arguments() -> argparse.Namespace:
         metavar="IN",
         help="tries each guess both ways over the capture IN, which wants --box; writes no ruleset",
     )
+    add_rates(parser)
     return parser.parse_args()
+
+
+def add_rates(parser: argparse.ArgumentParser) -> None:
+    parser.add_argument(
+        "--rates",
+        metavar="IN",
+        help="replays limits, quotas, `ct count` and sets that rules add to by the times of the capture IN, and writes "
+        "what each record meets there as marks of records; wants --box and --marks",
+    )
+    parser.add_argument(
+        "--marks", metavar="FOLDER", help="takes the marked box.txt and in.pcap, with which alone FITTED is to be run"
+    )
 
 
 def main() -> None:
@@ -146,13 +168,36 @@ def command() -> int:
 
 
 def run(names: argparse.Namespace) -> int:
+    inputs = (names.rules, names.box, names.both, names.rates)
     if names.map:
-        check_output(names.map, (names.rules, names.box, names.both))
+        check_output(names.map, inputs)
     network = Network(names.box) if names.box else None
     chosen = chosen_of(names.assume)
     if names.both:
         return run_both(names, network, chosen)
-    fitted = fit(names.rules, network, chosen)
+    if not names.rates:
+        return write(fit(names.rules, network, chosen), names)
+    if network is None or not names.marks:
+        raise Refused("--rates wants --box and --marks")
+    rates.check_outputs(names.marks, inputs)
+    fitted, subjects = fit_rates(names, network, chosen)
+    return write(fitted, names, subjects)
+
+
+def fit_rates(names: argparse.Namespace, network: Network, chosen: Mapping[str, str]) -> tuple[Fitted, Subjects]:
+    """Fits with what asks rates as matches of marks, as far as that can be replayed."""
+    indices = Box(names.box).indices
+    without: frozenset[Subject] = frozenset()
+    while True:
+        subjects = Subjects(indices, without)
+        try:
+            return fit(names.rules, network, chosen, None, subjects), subjects
+        except Again as found:
+            without |= {found.subject}
+
+
+def write(fitted: Fitted, names: argparse.Namespace, subjects: Subjects | None = None) -> int:
+    """Tells what was changed, and writes the ruleset if it is good enough."""
     tell(fitted.changes)
     worst = fitted.changes.worst()
     count = len(fitted.changes.list)
@@ -164,8 +209,17 @@ def run(names: argparse.Namespace) -> int:
     if GRADES.index(worst) > GRADES.index(names.at_most):
         commands.warn(f"{NAME}: {summary}, which is worse than {names.at_most}: nothing is written")
         return WORSE
-    data = fitted.text.encode("utf-8", "surrogateescape")
-    check(fitted, data, names)
+    text = fitted.text
+    with workspace() as folder:
+        if subjects is not None:
+            rated = rates.rated(subjects, text, names.rates, names.box, folder)
+            text = rated.text
+            for line in rated.lines:
+                commands.warn(line)
+        data = text.encode("utf-8", "surrogateescape")
+        check(fitted, data, names.rules, names.box if subjects is None else rated.files.box)
+        if subjects is not None:
+            rates.keep(rated.files, names.marks)
     if names.map:
         rulemap.write(names.map, data, names.rules, fitted.rows)
     commands.warn(f"{NAME}: {summary}")
@@ -196,12 +250,13 @@ def program_at_hand() -> str | None:
         return None
 
 
-def check(fitted: Fitted, data: bytes, names: argparse.Namespace) -> None:
-    """What is written is of nftrun's grammar, and `nftrun check` takes it, where the program is at hand."""
+def check(fitted: Fitted, data: bytes, rules: str, given: str | None) -> None:
+    """What is written is of nftrun's grammar, and `nftrun check` takes it, where the program is at hand. `given` is the
+    box file, if there is one."""
     if len(data) > SIZE:
-        raise Refused(f"{names.rules}: what it becomes has {len(data)} bytes, and nftrun takes {SIZE}")
+        raise Refused(f"{rules}: what it becomes has {len(data)} bytes, and nftrun takes {SIZE}")
     if not takes(data.decode("utf-8", "surrogateescape"), "ruleset"):
-        raise Refused(f"{names.rules}: what it becomes isn't in the language of nftrun; this is a fault of {NAME}")
+        raise Refused(f"{rules}: what it becomes isn't in the language of nftrun; this is a fault of {NAME}")
     program = program_at_hand()
     if program is None:
         return
@@ -210,9 +265,9 @@ def check(fitted: Fitted, data: bytes, names: argparse.Namespace) -> None:
         file.flush()
         box.write(SOME_BOX)
         box.flush()
-        status, errors = run_child([program, "check", "--explain", file.name, names.box or box.name])
-    if status and (names.box or OF_THE_BOX not in errors.split("\n")[0]):
-        raise Refused(refusal(fitted, names.rules, errors.replace(file.name, "the fitted ruleset")))
+        status, errors = run_child([program, "check", "--explain", file.name, given or box.name])
+    if status and (given or OF_THE_BOX not in errors.split("\n")[0]):
+        raise Refused(refusal(fitted, rules, errors.replace(file.name, "the fitted ruleset")))
 
 
 def refusal(fitted: Fitted, rules: str, errors: str) -> str:

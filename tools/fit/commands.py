@@ -447,7 +447,7 @@ class Commands:
             found.flags = [it.text for it in self.to_end() if it.kind == "word"]
         elif word in ("timeout", "gc-interval"):
             found.timeout |= word == "timeout"
-            self.to_end()
+            found.words += [word, *(it.text for it in self.to_end())]
         elif word == "size":
             found.size = self.size()
         elif word == "comment":
@@ -461,6 +461,7 @@ class Commands:
             words = [it.text for it in self.to_end()]
             if word in BOUNDS:
                 found.bounds.append(Bound(BOUNDS[word], "over" in words, None))
+                found.words += [word, *words]
         elif word == "elements":
             self.take("=")
             self.add_elements(found, self.to_end())

@@ -173,22 +173,20 @@ class ExpressionReader:
         return One(Value("number", hex(bits)))
 
     def extras(self) -> list[str]:
-        """What an element has beside its key: the words of it, without comments."""
+        """What an element has beside its key: the words and numbers of it, without comments."""
         found = []
         while True:
             self.newlines()
             if self.skip("comment"):
                 self.take("string")
             elif self.has("timeout", "expires"):
-                found.append(self.take().text)
-                self.take()
+                found += [self.take().text, self.take().text]
             elif self.has("counter", "limit", "quota", "ct", "last"):
                 found.append(self.take().text)
                 while self.peek().kind in ("number", "time", "word", "mark") and not self.has(
                     ",", "}", ":", "timeout", "expires", "comment"
                 ):
-                    found += ["over"] if self.has("over") else []
-                    self.at += 1
+                    found.append(self.take().text)
             else:
                 return found
 

@@ -35,6 +35,7 @@ if TYPE_CHECKING:
     from .assumptions import Assumptions
     from .commands import Commands
     from .network import Network
+    from .rates.subjects import Subjects
 
 
 @dataclass(frozen=True)
@@ -64,9 +65,11 @@ def selectors_asked(it: What) -> list[str]:
 class Fitter:
     """Fits all that commands left; `rows` is the map from fitted rules to the operator's."""
 
-    def __init__(self, commands: Commands, assumptions: Assumptions, network: Network | None) -> None:
+    def __init__(
+        self, commands: Commands, assumptions: Assumptions, network: Network | None, rates: Subjects | None = None
+    ) -> None:
         self.tables, self.changes = commands.tables, commands.changes
-        self.assumptions, self.network = assumptions, network
+        self.assumptions, self.network, self.rates = assumptions, network, rates
         self.order = Order(self, commands.order)
         self.sets = Sets(self)
         self.rows: list[FittedRule] = []
@@ -97,6 +100,8 @@ class Fitter:
         self.protocols = Protocols(self)
         self.written, self.asked = self.places(selectors_written), self.places(selectors_asked)
         self.order.settle()
+        if self.rates is not None:
+            self.rates.begin(self)
         return "\n".join(self.table_text(table) for table in self.tables.values())
 
     def rules(self) -> Iterator[tuple[Table, Chain, Rule]]:
@@ -236,6 +241,7 @@ class Fitter:
         # sets first: what is guessed of their elements decides for the rules that have them
         sets = [line for found in table.sets.values() for line in self.sets.lines(table, found)]
         chains = [line for chain in table.chains.values() for line in self.chain_lines(table, chain)]
+        sets += self.rates.lines(table) if self.rates is not None else []
         notes = [f"\tcomment {note}" for note in table.notes]
         body = notes + sets + chains
         while body and not body[-1]:
@@ -253,7 +259,10 @@ class Fitter:
         number = 0
         for old, rule in enumerate(chain.rules, 1):
             made_for = chain.made_for or (chain, old)
-            for text, counters in RuleFitter(self, table, chain, rule).fitted():
+            fitted = RuleFitter(self, table, chain, rule).fitted()
+            if self.rates is not None:
+                self.rates.check_once([text for text, _ in fitted])
+            for text, counters in fitted:
                 number += 1
                 old_chain = f"{table.family} {table.name} {made_for[0].name}"
                 self.rows.append(FittedRule(place, number, old_chain, made_for[1], rule, counters))

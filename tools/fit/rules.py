@@ -150,7 +150,9 @@ class RuleFitter:
 
     def fit_statement(self, it: Statement) -> None:
         """Fits the statement at hand by its kind."""
-        what = it.what
+        what, rates = it.what, self.fitter.rates
+        if rates is not None and rates.fits(self.draft, it):
+            return
         if isinstance(what, Match):
             self.fit_match(what)
         elif isinstance(what, VerdictMap):

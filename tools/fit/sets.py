@@ -110,6 +110,9 @@ class Sets:
     # text
 
     def lines(self, table: Table, found: Set) -> list[str]:
+        rates = self.fitter.rates
+        if rates is not None and rates.replays(table, found.name):
+            return []
         try:
             return self.lines_of(table, found)
         except NotFitted as fault:

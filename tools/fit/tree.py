@@ -358,6 +358,7 @@ class Set:
         self.size: int | None = None
         self.timeout, self.merges, self.counts = False, False, False
         self.bounds: list[Bound] = []  # what each element is bounded by
+        self.words: list[str] = []  # of its timeout and its bounds, as they stand
         self.slices: list[str] | None = []  # its fields as they stand, or None where these changed
         self.fault: tuple[Token, str] | None = None  # where its elements aren't understood, and why
         self.word = "map" if is_map else "set"
