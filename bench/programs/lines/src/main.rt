@@ -128,6 +128,9 @@ fn table(alloc: Global, form: Form, count: u32) -> Result<TableCode, AllocError>
             verdicts: Vec::new(alloc),
             numbers: Vec::new(alloc),
         },
+        tables: 0,
+        merged: 0,
+        dropped: 0,
     })
 }
 
@@ -172,7 +175,10 @@ fn timed(rt: &HostRuntime, form: Form, name: &str, count: u32, is_indexed: bool)
     if !is_indexed {
         table.drop_indexes();
     }
-    let (Ok(code), Ok(mut events)) = (code(rt.alloc(), table), Events::new(rt.alloc())) else {
+    let Ok(code) = code(rt.alloc(), table) else {
+        return Ok(());
+    };
+    let Ok(mut events) = Events::new(rt.alloc(), &code) else {
         return Ok(());
     };
     let cost = count.min(16_000) * 3 + 1;
