@@ -45,6 +45,24 @@ class Reading(FilesCase):
         self.assertEqual(len(list(captures.records(self.file("torn", data[:-1])))), 13)
         self.assertEqual(len(list(captures.records(self.file("head", data[:24])))), 0)
 
+    def test_the_upper_half_of_the_link_type_says_something_else(self) -> None:
+        # of the FCS of frames (draft-ietf-opsawg-pcap, "File Header")
+        data = base64.b64decode(STATION)
+        marked = captures.header_of(self.file("a", data[:20] + bytes((0x14, 0, 0, 1)) + data[24:]))
+        self.assertEqual(marked.link_type, captures.ETHERNET)
+
+    def test_a_damaged_record_is_told_by_its_number(self) -> None:
+        # 200 records of 1,000 bytes, so that the last one stands in another piece of the file than the first
+        file = io.BytesIO()
+        captures.write_header(file)
+        for _ in range(200):
+            captures.write_record(file, 0, bytes(1000))
+        data = bytearray(file.getvalue())
+        last = 24 + 199 * 1016 + 8
+        data[last:last + 4] = b"\xff\xff\xff\x7f"
+        with self.assertRaisesRegex(Refused, "record 200 claims"):
+            list(captures.records(self.file("a", bytes(data))))
+
     def test_refused(self) -> None:
         data = base64.b64decode(ROUTER)
         with self.assertRaisesRegex(Refused, "no capture of libpcap or pcapng"):

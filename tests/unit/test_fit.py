@@ -89,6 +89,9 @@ class Values(unittest.TestCase):
     def test_numbers(self) -> None:
         prefix = tree.Prefix(one("10.0.0.0").value, 8)
         self.assertEqual(numbers.range_of(prefix, "ipv4_addr"), (10 << 24, (11 << 24) - 1))
+        # 10.1.2.3/8 is the network that 10.1.2.3 is in
+        of_host = tree.Prefix(one("10.1.2.3").value, 8)
+        self.assertEqual(numbers.range_of(of_host, "ipv4_addr"), (10 << 24, (11 << 24) - 1))
         self.assertEqual(numbers.range_of(one("http"), "inet_service"), (80, 80))
         self.assertEqual(numbers.range_of(tree.Anything(), "inet_service"), (0, 65535))
         self.assertEqual(numbers.spell_part(tree.Range(one("1").value, one("3").value), "mark"), "1-3")
@@ -187,6 +190,13 @@ class Fitting(FilesCase):
         text = fit(path, None).text
         self.assertIn("elements = { 10.0.0.0/8,\n\t\t\t     10.1.2.3 }", text)
         self.assertIn("ip saddr @s drop", text)
+
+    def test_a_named_counter_starts_once(self) -> None:
+        # the sum of the counters that stand for it is what it was
+        path = self.file("rules.nft", "table ip t {\ncounter web { packets 5 bytes 500 }\nchain c {\ntype filter hook "
+                         "input priority 0;\ntcp dport 80 counter name web\ntcp dport 443 counter name web\n}\n}\n")
+        found = [line.strip() for line in fit(path, None).text.split("\n") if "counter" in line]
+        self.assertEqual(found, ["tcp dport 80 counter packets 5 bytes 500", "tcp dport 443 counter"])
 
     def test_what_cannot_be_fitted_is_told(self) -> None:
         head = "table ip t {\nchain c {\ntype filter hook input priority 0;\n"

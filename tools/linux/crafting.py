@@ -17,7 +17,6 @@ and behind the addresses, of every line
 from __future__ import annotations
 
 import io
-import struct
 from typing import Dict, Iterable, Sequence
 
 from toolbox import crafted
@@ -71,9 +70,8 @@ def packet_of(words: Sequence[str], modifiers: Modifiers) -> tuple[bytes, crafte
 
 def with_header(packet: bytes, place: int, value: int) -> bytes:
     """The packet with two bytes of its header written, and the header's checksum with it."""
-    packet = packet[:place] + struct.pack(">H", value) + packet[place + 2:]
-    header = packet[:10] + bytes(2) + packet[12:20]
-    return packet[:10] + struct.pack(">H", checksum(header)) + packet[12:]
+    packet = crafted.with_word(crafted.with_word(packet, place, value), 10, 0)
+    return crafted.with_word(packet, 10, checksum(packet[:20]))
 
 
 def modified(packet: bytes, modifiers: Modifiers) -> bytes:
@@ -81,7 +79,7 @@ def modified(packet: bytes, modifiers: Modifiers) -> bytes:
         at = 20 + SUM_AT[packet[9]]
         packet = packet[:at] + bytes((packet[at] ^ 0x55, packet[at + 1])) + packet[at + 2:]
     if "udplength" in modifiers:
-        packet = packet[:24] + struct.pack(">H", int(modifiers["udplength"])) + packet[26:]
+        packet = crafted.with_word(packet, 24, int(modifiers["udplength"]))
     if "cut" in modifiers:
         packet = packet[:len(packet) - int(modifiers["cut"])]
         packet = with_header(packet, 2, len(packet))

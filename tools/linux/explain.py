@@ -10,6 +10,7 @@ from linux.differences import Difference, Kind
 from linux.frames import BY_LOOPBACK
 from linux.history import History, Inside, Passage, is_lone_syn
 from linux.seen import Fate
+from toolbox.crafted import pseudo_header
 from toolbox.packets import (
     ACK, ANSWER, ASK, FIN, ICMP, ICMP_ERRORS, NO_PORT, RST, SYN, TCP, UDP, checksum, destination_end, source_end,
     tuple_at)
@@ -97,7 +98,7 @@ class Case:
             return False
         if self.protocol == UDP and body[6:8] == NO_PORT:
             return False
-        pseudo = self.packet[12:20] + bytes((0, self.protocol)) + len(body).to_bytes(2, "big")
+        pseudo = pseudo_header(self.packet[12:16], self.packet[16:20], self.protocol, len(body))
         return checksum(pseudo + body) != 0
 
 

@@ -16,7 +16,7 @@ import socket
 import struct
 import time
 from dataclasses import dataclass
-from typing import Callable, Iterator, Sequence, Tuple
+from typing import Callable, Iterable, Iterator, Sequence, Tuple
 
 from linux.namespaces import Lab, command, enter_new, write_setting
 from toolbox.captures import ETHERNET, LINUX_SLL2, write_header, write_record
@@ -26,7 +26,7 @@ from toolbox.packets import ECHO_REQUEST
 SIOCETHTOOL, OFFLOADS = 0x8946, (0x17, 0x1F, 0x24, 0x2C)  # ETHTOOL_STXCSUM, _STSO, _SGSO, _SGRO
 DISCOVER, PROBE_ALWAYS = 10, 2  # IP_MTU_DISCOVER, IP_PMTUDISC_DO
 SEEN_TOO = 4  # PACKET_OUTGOING
-OTHER_ADDRESSES = ("198.51.100.7/32", "198.51.100.9/32", "198.51.100.50/32")
+OTHER_ADDRESSES = ("198.51.100.7", "198.51.100.9", "198.51.100.50")
 
 Address = Tuple[str, int]  # as sockets take it
 Traffic = Callable[[], None]
@@ -40,6 +40,18 @@ def offloads_off(name: str) -> None:
             request = struct.pack("=16sQ", name.encode(), value.buffer_info()[0])
             with contextlib.suppress(OSError):
                 fcntl.ioctl(control, SIOCETHTOOL, request)
+
+
+def set_up_next_hop(addresses: Iterable[str]) -> None:
+    """What stands behind a router, in this namespace: addresses of others, and a link with an MTU of 1000."""
+    for address in addresses:
+        command("ip", "addr", "add", f"{address}/32", "dev", "lo")
+    command("ip", "link", "add", "narrow", "mtu", "1000", "type", "veth", "peer", "name", "end")
+    for name in ("narrow", "end"):
+        command("ip", "link", "set", name, "arp", "off", "up")
+    command("ip", "route", "add", "198.51.101.0/24", "dev", "narrow")
+    write_setting("ipv4/ip_forward", 1)
+    write_setting("ipv4/icmp_ratelimit", 0)
 
 
 class World:
@@ -82,14 +94,7 @@ class World:
     def set_up_wan(self, offloads: bool) -> None:
         self.enter("wan")
         self.bring_up("uplink", offloads, "203.0.113.254/24")
-        for address in OTHER_ADDRESSES:
-            command("ip", "addr", "add", address, "dev", "lo")
-        command("ip", "link", "add", "narrow", "mtu", "1000", "type", "veth", "peer", "name", "end")
-        for name in ("narrow", "end"):
-            command("ip", "link", "set", name, "arp", "off", "up")
-        command("ip", "route", "add", "198.51.101.0/24", "dev", "narrow")
-        write_setting("ipv4/ip_forward", 1)
-        write_setting("ipv4/icmp_ratelimit", 0)
+        set_up_next_hop(OTHER_ADDRESSES)
 
     @staticmethod
     def bring_up(name: str, offloads: bool, *addresses: str) -> None:

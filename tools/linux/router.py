@@ -13,7 +13,7 @@ from dataclasses import dataclass
 from typing import Any, Callable, Iterator
 
 from linux.namespaces import Lab, command, enter_new, write_setting
-from linux.record import answer, ask, fetch, offloads_off, ping, serve
+from linux.record import answer, ask, fetch, offloads_off, ping, serve, set_up_next_hop
 from toolbox.commands import Refused
 
 BRIDGE, UPLINK, FIRST_PORT = 2, 3, 10  # indices of interfaces
@@ -147,14 +147,7 @@ class Router:
     def set_up_outside(self) -> None:
         Lab.enter(self.outside)
         self.bring_up("uplink", f"{NEXT_HOP}/24")
-        for address in SERVERS + CLIENTS:
-            command("ip", "addr", "add", f"{address}/32", "dev", "lo")
-        command("ip", "link", "add", "narrow", "mtu", "1000", "type", "veth", "peer", "name", "end")
-        for name in ("narrow", "end"):
-            command("ip", "link", "set", name, "arp", "off", "up")
-        command("ip", "route", "add", "198.51.101.0/24", "dev", "narrow")
-        write_setting("ipv4/ip_forward", 1)
-        write_setting("ipv4/icmp_ratelimit", 0)
+        set_up_next_hop(SERVERS + CLIENTS)
 
 
 class Children:

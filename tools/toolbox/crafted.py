@@ -116,7 +116,8 @@ def read_options(kind: str, words: Sequence[str]) -> Options:
 # Bytes of a packet
 
 
-def with_checksum(data: bytes, offset: int, value: int) -> bytes:
+def with_word(data: bytes, offset: int, value: int) -> bytes:
+    """With another number in the two bytes at a place, as a checksum."""
     return data[:offset] + struct.pack(">H", value) + data[offset + 2:]
 
 
@@ -134,7 +135,7 @@ def tcp_segment(source: End, destination: End, options: Options) -> bytes:
         ">HHIIBBHHH", source_port, destination_port, sequence, acknowledged, header_words, flags, window, 0, 0
     ) + bytes(options.number("bytes", 0))
     pseudo = pseudo_header(source_address, destination_address, TCP, len(segment))
-    return with_checksum(segment, 16, checksum(pseudo + segment))
+    return with_word(segment, 16, checksum(pseudo + segment))
 
 
 def udp_datagram(source: End, destination: End, options: Options) -> bytes:
@@ -143,12 +144,12 @@ def udp_datagram(source: End, destination: End, options: Options) -> bytes:
     datagram = struct.pack(">HHHH", source_port, destination_port, length, 0) + bytes(length - 8)
     pseudo = pseudo_header(source_address, destination_address, UDP, length)
     # 0 would say that there is no checksum
-    return with_checksum(datagram, 6, checksum(pseudo + datagram) or 0xFFFF)
+    return with_word(datagram, 6, checksum(pseudo + datagram) or 0xFFFF)
 
 
 def icmp_message(message_type: int, code: int, rest: bytes) -> bytes:
     message = struct.pack(">BBH", message_type, code, 0) + rest
-    return with_checksum(message, 2, checksum(message))
+    return with_word(message, 2, checksum(message))
 
 
 def echo_message(kind: str, options: Options) -> bytes:
@@ -165,7 +166,7 @@ def ip_packet(source: bytes, destination: bytes, protocol: int, payload: bytes, 
     header = struct.pack(
         ">BBHHHBBH", 0x45, 0, 20 + len(payload), options.number("ipid", 0), 0, options.number("ttl", 64), protocol, 0)
     header += source + destination
-    return with_checksum(header, 10, checksum(header)) + payload
+    return with_word(header, 10, checksum(header)) + payload
 
 
 def about_packet(words: Sequence[str]) -> bytes:
