@@ -53,7 +53,8 @@ def remainders(seen: Seen, unsettled: Sequence[str]) -> Iterator[str]:
         many = len(seen.unmet)
         yield f"{plural(many, 'change')} {'was' if many == 1 else 'were'} met by no packet: nothing is known of that"
     if seen.untold:
-        yield f"whether a packet met {plural(len(seen.untold), 'more change')} a run doesn't tell"
+        changes = plural(len(seen.untold), "more change" if seen.unmet else "change")
+        yield f"whether a packet met {changes} a run doesn't tell"
     if seen.is_torn:
         yield f"the capture is torn, and this is of its {number(seen.records)} whole records"
     for name in unsettled:
