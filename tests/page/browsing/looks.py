@@ -32,6 +32,8 @@ LOOKS = (
 STATES = {
     "as opened": "document.getElementById('help').close(); location.hash = ''",
     "with a record": "location.hash = '#record=1'",
+    # of browsing.made: the first that the new ruleset drops; elsewhere a record that may not be there
+    "with a dropped record": "location.hash = '#record=3743'",
     "with a search": "document.getElementById('search').value = 'nothing known';"
                      "document.getElementById('filter').dispatchEvent(new SubmitEvent('submit', {cancelable: true}))",
     "with keys": "document.getElementById('help').showModal()",

@@ -6,7 +6,7 @@ from typing import TYPE_CHECKING, Iterable, Sequence
 from pages.both import Both, Text
 from pages.model import hits_of
 from pages.texts import number, plural, shown
-from pages.verdict import verdict
+from pages.verdict import uncompared, verdict
 from toolbox.differences import BLOCKED, OPENED, OTHERWISE, REWRITTEN, Groups, Sight, differing
 from toolbox.evidence import Evidence
 from toolbox.flows import LEARNED, Flows
@@ -64,7 +64,7 @@ class Change:
     @property
     def doubts(self) -> list[str]:
         """What a reader has to know before all else."""
-        return [*self.seen.router, *filter(None, [self.seen.not_compared])]
+        return [*self.seen.router, *filter(None, [uncompared(self.seen)])]
 
     @property
     def is_clean(self) -> bool:

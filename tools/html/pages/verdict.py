@@ -25,11 +25,16 @@ class Verdict:
 def verdict(seen: Seen, connections: Mapping[str, int], unsettled: Sequence[str]) -> Verdict:
     """Of a comparison, by kind the connections that differ, and the rulesets whose replay didn't settle."""
     parts = [part for part in (
-        seen.nothing and f"nothing was compared: {seen.nothing}", seen.not_compared, differences(seen, connections),
+        seen.nothing and f"nothing was compared: {seen.nothing}", uncompared(seen), differences(seen, connections),
         *remainders(seen, unsettled)) if part]
     text = "; ".join(parts)
     tone = "unknown" if unsettled else tone_of(seen, connections)
     return Verdict(f"{text[0].upper()}{text[1:]}.", tone)
+
+
+def uncompared(seen: Seen) -> str | None:
+    """How much it is of which the rulesets weren't compared."""
+    return seen.not_compared
 
 
 def differences(seen: Seen, connections: Mapping[str, int]) -> str | None:
@@ -39,7 +44,7 @@ def differences(seen: Seen, connections: Mapping[str, int]) -> str | None:
         return f"the new ruleset {' and '.join(filter(None, (', '.join(told[:-1]), told[-1])))}"
     if seen.nothing:
         return None
-    return "nothing differs in the rest of this capture" if seen.not_compared else "nothing differs in this capture"
+    return "nothing differs in the rest of this capture" if uncompared(seen) else "nothing differs in this capture"
 
 
 def remainders(seen: Seen, unsettled: Sequence[str]) -> Iterator[str]:
@@ -48,7 +53,8 @@ def remainders(seen: Seen, unsettled: Sequence[str]) -> Iterator[str]:
         many = len(seen.unmet)
         yield f"{plural(many, 'change')} {'was' if many == 1 else 'were'} met by no packet: nothing is known of that"
     if seen.untold:
-        yield f"whether a packet met {plural(len(seen.untold), 'more change')} a run doesn't tell"
+        changes = plural(len(seen.untold), "more change" if seen.unmet else "change")
+        yield f"whether a packet met {changes} a run doesn't tell"
     if seen.is_torn:
         yield f"the capture is torn, and this is of its {number(seen.records)} whole records"
     for name in unsettled:
@@ -56,7 +62,7 @@ def remainders(seen: Seen, unsettled: Sequence[str]) -> Iterator[str]:
 
 
 def tone_of(seen: Seen, connections: Mapping[str, int]) -> str:
-    if seen.nothing or seen.not_compared or seen.is_torn:
+    if seen.nothing or uncompared(seen) or seen.is_torn:
         return "unknown"
     if not any(connections.values()):
         return "unknown" if seen.unmet or seen.untold else "same"
