@@ -2,9 +2,9 @@
 
   python3 tests/tools/made/pcapng.py KIND >in.pcapng
 
-KIND is `two`, two interfaces of Ethernet; `silent`, these without directions; `other`, a second one of 802.11; `merged`,
-without names; `wan`, one interface. A SYN enters by lan and leaves by wan, its answer comes back, and a neighbour's
-packet goes by.
+KIND is `two`, two interfaces of Ethernet; `silent`, these without directions; `other`, a second one of 802.11;
+`merged`, without names; `wan`, one interface. A SYN enters by lan and leaves by wan, its answer comes back, and a
+neighbour's packet goes by.
 """
 import pathlib
 import sys
