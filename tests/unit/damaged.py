@@ -40,7 +40,8 @@ LARGEST = 60_000  # bytes of a file that is damaged
 # what stands for a file in the words of a command
 RULES, OTHER_RULES, BOX, CAPTURE, REPORT, MAP, ALLOWED, LISTING, ADDRESSES, ROUTES, PACKETS = (
     "RULES", "OTHER", "BOX", "IN", "REPORT", "MAP", "ALLOWED", "LISTING", "ADDRESSES", "ROUTES", "PACKETS")
-OUT = "OUT"
+OUT, FOLDER = "OUT", "FOLDER"
+MADE = {OUT: "made", FOLDER: "marks"}  # files and folders that calls write
 
 
 @dataclass(frozen=True)
@@ -93,6 +94,7 @@ CALLS = (
     Call("fit-ruleset", (RULES,), is_data=True),
     Call("fit-ruleset", ("--at-most", "same", "--box", BOX, "--map", OUT, RULES), "worse than",
          (DONE, DIFFERS, REFUSED), True),
+    Call("fit-ruleset", ("--box", BOX, "--rates", CAPTURE, "--marks", FOLDER, RULES), is_data=True),
     Call("packet", ("--box", BOX), is_data=True, reads=PACKETS),
     Call("box-from-ip", (ADDRESSES, ROUTES)),
 )
@@ -436,7 +438,8 @@ class Trials:
     def one(self, call: Call, has_program: bool) -> list[str]:
         """What is wrong with a call, in lines; none where nothing is."""
         paths = self.inputs(call)
-        words = [paths.get(word, str(self.folder / "made") if word == OUT else word) for word in call.words]
+        paths.update((word, str(self.folder / name)) for word, name in MADE.items())
+        words = [paths.get(word, word) for word in call.words]
         given = pathlib.Path(paths[call.reads]).read_bytes() if call.reads else b""
         with contextlib.ExitStack() as patched:
             patched.enter_context(mock.patch("linux.beside.check_needs", lambda: None))
