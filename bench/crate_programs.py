@@ -1,5 +1,6 @@
 """Builds the programs of bench/programs, which time single crates: each is proved over copies of the crates that it
-stands on, in a folder of its own."""
+stands on, in a folder of its own. There their files end in `.txt`, since the gate reads each .rt file as one of a crate
+that crates.txt names."""
 from __future__ import annotations
 
 import pathlib
@@ -26,14 +27,25 @@ def needed(name: str, known: dict[str, list[str]]) -> list[str]:
     return [*found, name]
 
 
+def copy_program(name: str, folder: pathlib.Path) -> None:
+    """Copies a program's files, under the names that the toolchain wants."""
+    for path in (PROGRAMS / name).rglob("*.txt"):
+        place = folder / path.relative_to(PROGRAMS / name).with_suffix("")
+        place.parent.mkdir(parents=True, exist_ok=True)
+        shutil.copyfile(path, place)
+
+
 def make_workspace(name: str, folder: pathlib.Path) -> None:
     """Copies a program and the crates that it stands on."""
     known = lines_of(TOP / "crates.txt")
-    known[name] = lines_of(PROGRAMS / "crates.txt")[name]
+    known[name] = lines_of(PROGRAMS / "programs.txt")[name]
     subprocess.run(["git", "-C", str(folder), "init", "-q"], check=True)
     crates = needed(name, known)
     for crate in crates:
-        shutil.copytree(PROGRAMS / name if crate == name else TOP / "crates" / crate, folder / "crates" / crate)
+        if crate == name:
+            copy_program(name, folder / "crates" / crate)
+        else:
+            shutil.copytree(TOP / "crates" / crate, folder / "crates" / crate, ignore=shutil.ignore_patterns("out"))
     text = "".join(f"{crate}: {' '.join(known[crate])}\n" for crate in crates)
     (folder / "crates.txt").write_text(text, encoding="ascii")
 
