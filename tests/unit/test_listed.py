@@ -37,6 +37,15 @@ class Names(FilesCase):
         for file in files:
             self.assertTrue(os.access(TOP / "tests" / file, os.X_OK), file)
 
+    def test_tests_stand_below_tests(self) -> None:
+        """Nothing else has a folder of cases or rows, or a file that tries something."""
+        names = subprocess.run(["git", "ls-files", "bench", "examples", "scripts", "tools"], cwd=TOP,
+                               stdout=subprocess.PIPE, text=True, check=True).stdout.splitlines()
+        self.assertGreater(len(names), 100)
+        elsewhere = [name for name in names if TRIES.match(pathlib.Path(name).name)
+                     or {"cases", "rows", "calls"} & set(pathlib.Path(name).parts)]
+        self.assertEqual([], elsewhere)
+
     def test_names(self) -> None:
         self.assertEqual(len(TESTS), len(listed.BY_NAME))
         status, told = ended("--list")

@@ -1,5 +1,5 @@
 """What Linux keeps of a `limit`, a `quota` and a `ct count`, and what a packet meets there. The sources are those of
-Linux 6.18, net/netfilter; each is tried on a kernel by tools/cases/fit-ruleset/rates-kernel."""
+Linux 6.18, net/netfilter; each is tried on a kernel by tests/tools/fit-ruleset/rates-kernel."""
 from __future__ import annotations
 
 from dataclasses import dataclass
