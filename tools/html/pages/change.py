@@ -35,7 +35,7 @@ class Change:
                 kept.append(record)
         self.evidence, router = Evidence(*self.groups.sights), Router(flows, box, before)
         self.nothing = None if self.groups.all else self.evidence.nothing_compared()
-        self.doubts = [line.strip() for line in router.lines()] + [line for line in (router.not_compared(),) if line]
+        self.doubts = [line.strip() for line in router.lines()] + ([router.not_compared().text()] if router else [])
         self.is_clean = bool(self.groups.all) or not self.nothing and not router
 
     def of_kind(self, kind):
