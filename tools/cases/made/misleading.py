@@ -17,6 +17,8 @@ Times are in seconds. All but `mirrored`, `repeated` and `uplink` fit tools/case
   uplink         a packet of a host of lan leaves by an interface of index 9, its answer comes by that one
   table          a table of connections: at 1 to 5 a host begins one each second, at 4.5 and 5.5 another one, by UDP; at 303 the
                  second host begins one more, by then the first two have expired
+  full           as many connections as a run holds, 1,048,576, and three more: each host of lan uses all 65,535 ports of UDP, so the
+                 17th has 16, and the three
 """
 import struct
 import sys
@@ -26,6 +28,7 @@ from capture import COMES, HOSTS, LAN, LEAVES, ROUTER, SERVER, WAN, header, sll2
 OUTSIDE = ("198.51.100.9", 45000)
 SYN, ACK, SYN_ACK, PUSH = 2, 16, 18, 24
 UNKNOWN, UPLINK = 7, 9  # interfaces
+MOST_CONNECTIONS = 1048576
 
 
 def tcp(source, destination, ttl, flags, sequence, number):
@@ -99,6 +102,17 @@ def table():
         yield seconds, LAN, COMES, udp((address, port + number), SERVER, 64)
 
 
+def full():
+    hosts = [bytes((192, 168, 1, 10 + number)) for number in range(17)]
+    head, server = struct.pack("<IIII", 10, 0, 48, 48) + sll2(LAN, COMES), bytes(map(int, SERVER[0].split(".")))
+    for number in range(MOST_CONNECTIONS + 3):
+        host, port = divmod(number, 65535)
+        if not port:
+            start = struct.pack(">BBHHHBBH", 69, 0, 28, 0, 0, 64, 17, 0) + hosts[host] + server
+            start = start[:10] + struct.pack(">H", total(start)) + start[12:]
+        yield head + start + struct.pack(">HHHH", port + 1, SERVER[1], 8, 0)
+
+
 KINDS = {
     "clock-forward": lambda: asking((10, 0), (11, 0), (20, 1), (3612, 0), (3613, 0)),
     "clock-quiet": lambda: asking((10, 0), (11, 0), (3612, 1)),
@@ -108,6 +122,8 @@ KINDS = {
 
 
 def capture(kind):
+    if kind == "full":
+        return header(276) + b"".join(full())
     if kind in ("mirrored", "repeated"):
         frame = bytes.fromhex("020000000001" "020000000002" "0800")
         packets = [udp((HOSTS[0][0], 5000 + number), SERVER, 64) for number in range(4)]
