@@ -9,6 +9,7 @@ They fit tools/cases/rules/router.box.txt (2 lan 192.168.1.1/24, 3 wan 203.0.113
   vlan        Ethernet: four frames with a tag of 802.1Q, each with an IPv4 packet
   offload     LINUX_SLL2: the packets of `forwarded` that enter, with an IPv4 header checksum of 0
   headers     the same as captured with a snap length: 28 bytes of each packet, which has 128
+  answers     of `forwarded` what the name server says alone: records 3 and 7, for the router's own address
   empty       the 24 bytes of a header alone
 """
 import struct
@@ -71,6 +72,9 @@ def capture(kind):
     for second, (interface, way, source, destination, ttl) in enumerate(forwarded(), 10):
         if kind == "forwarded":
             parts.append(record(second, sll2(interface, way) + udp(source, destination, ttl)))
+        elif kind == "answers":
+            if (interface, way) == (WAN, COMES):
+                parts.append(record(second, sll2(interface, way) + udp(source, destination, ttl)))
         elif way == COMES:
             packet = udp(source, destination, ttl, 0 if kind == "offload" else None)
             parts.append(record(second, sll2(interface, way) + packet, 48 if kind == "headers" else None))

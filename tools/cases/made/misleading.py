@@ -2,7 +2,8 @@
 
   python3 tools/cases/made/misleading.py KIND >in.pcap
 
-Times are in seconds. All but `mirrored`, `repeated` and `uplink` fit tools/cases/rules/router.box.txt.
+Times are in seconds. All but `mirrored`, `repeated`, `uplink` and `server-side` fit tools/cases/rules/router.box.txt, and
+`server-side` fits dmz.box.txt there.
 
   mirrored       Ethernet: each of 4 packets twice, 20 microseconds apart
   repeated       the same 4 packets, each again after 0.3 seconds, as hosts repeat what got no answer
@@ -15,6 +16,7 @@ Times are in seconds. All but `mirrored`, `repeated` and `uplink` fit tools/case
   let-in         SYN, SYN and ACK, ACK of a connection from outside to 192.168.1.20 port 443, each with its copy
   earlier        an answer to UDP port 61000 of the router, which leaves to a host inside, and what that one says then
   uplink         a packet of a host of lan leaves by an interface of index 9, its answer comes by that one
+  server-side    what a web server of the DMZ says, each with its copy, and nothing of what it is asked
   table          a table of connections: at 1 to 5 a host begins one each second, at 4.5 and 5.5 another one, by UDP; at 303 the
                  second host begins one more, by then the first two have expired
   full           as many connections as a run holds, 1,048,576, and three more: each host of lan uses all 65,535 ports of UDP, so the
@@ -26,8 +28,8 @@ import sys
 from capture import COMES, HOSTS, LAN, LEAVES, ROUTER, SERVER, WAN, header, sll2, total, udp
 
 OUTSIDE = ("198.51.100.9", 45000)
-SYN, ACK, SYN_ACK, PUSH = 2, 16, 18, 24
-UNKNOWN, UPLINK = 7, 9  # interfaces
+FIN, SYN, ACK, SYN_ACK, PUSH = 1, 2, 16, 18, 24
+DMZ, UNKNOWN, UPLINK = 4, 7, 9  # interfaces
 MOST_CONNECTIONS = 1048576
 
 
@@ -95,6 +97,12 @@ def uplink():
     yield from both(2, UPLINK, LAN, udp(SERVER, outside, 64), udp(SERVER, HOSTS[0], 63))
 
 
+def server_side():
+    server = ("192.0.2.10", 80)
+    for number, flags in enumerate((SYN_ACK, PUSH, FIN | ACK), 1):
+        yield from both(number, DMZ, WAN, *(tcp(server, OUTSIDE, ttl, flags, number, number) for ttl in (64, 63)))
+
+
 def table():
     (first, port), (second, _) = HOSTS
     for seconds, address, number in ((1, first, 0), (2, first, 1), (3, first, 2), (4, first, 3), (4.5, second, 4), (5, first, 5),
@@ -118,7 +126,8 @@ KINDS = {
     "clock-quiet": lambda: asking((10, 0), (11, 0), (3612, 1)),
     "clock-back": lambda: asking((1000, 0), (1001, 0), (901, 0), (902, 0)),
     "clock-shaken": lambda: asking((1000, 0), (1001, 0), (1000.999, 0), (1002, 0)),
-    "to-the-box": to_the_box, "no-address": no_address, "let-in": let_in, "earlier": earlier, "uplink": uplink, "table": table}
+    "to-the-box": to_the_box, "no-address": no_address, "let-in": let_in, "earlier": earlier, "uplink": uplink, "server-side": server_side,
+    "table": table}
 
 
 def capture(kind):
