@@ -17,7 +17,8 @@ from toolbox.outputs import check_output, output
 RULES = "table inet f { chain in { type filter hook input priority 0; accept; } }\n"
 # stands in for nftrun: says who it is, and doesn't end
 SLEEPER = "#!/bin/sh\necho $$ >\"$PIDS\"\nexec sleep 60\n"
-LONG = 20_000_000  # more than any ruleset has
+FILES = "rules.nft box.txt in.pcap"
+LONG = 100_000_000  # bytes of a line
 
 
 class Outputs(FilesCase):
@@ -122,20 +123,39 @@ class Ending(FilesCase):
         self.file("many.nft", RULES.replace("accept", f"counter packets {digits} bytes 1"))
         self.file("many.txt", BOX + f"idle udp {digits}\n")
         for command in ("report-to-json report.txt >/dev/null", "annotate rules.nft report.txt",
-                        "annotate many.nft report.txt", "doctor many.txt in.pcap"):
+                        "annotate many.nft report.txt", "doctor many.txt in.pcap", f"why {digits} {FILES}",
+                        f"why 'udp any > any:{digits}' {FILES}", f"page --records {digits} {FILES}",
+                        f"doctor --conntrack-max {digits} box.txt in.pcap rules.nft",
+                        f"packet 'udp 192.0.2.1:{digits} > 192.0.2.2:2'", "beside-copies rules.nft many.txt in.pcap",
+                        "compare-rulesets rules.nft rules.nft many.txt in.pcap",
+                        "align rules.nft many.txt in.pcap a.pcap",
+                        "start rules.nft many.txt in.pcap first"):
             self.refused(command)
 
     def test_long_lines(self) -> None:
-        for name, begin in (("long.nft", b"table "), ("long.txt", b"trace ")):
+        for name, begin in (("long.nft", b"table "), ("long.txt", b"trace "), ("long.pcap", b"")):
             with open(self.folder / name, "wb") as file:
                 file.write(begin + b"a" * LONG + b"\n")
         for command in ("annotate long.nft long.txt", "annotate rules.nft long.txt", "doctor long.txt in.pcap",
-                        "report-to-json long.txt", "fit-ruleset long.nft", "packet <long.txt"):
+                        "report-to-json long.txt", "fit-ruleset long.nft", "packet <long.txt",
+                        "head -c 1000000 long.txt | box-from-ip",  # awk takes minutes for more of one line
+                        "why 1 long.nft box.txt in.pcap", "page long.nft box.txt in.pcap", "doctor box.txt long.pcap",
+                        "compare-rulesets --allow long.txt rules.nft rules.nft box.txt in.pcap",
+                        "report-to-json rules.nft long.txt in.pcap", "align rules.nft long.txt in.pcap out.pcap",
+                        "beside-copies rules.nft long.txt in.pcap", "beside-linux long.nft box.txt in.pcap",
+                        "start rules.nft long.txt in.pcap first", "annotate --map long.txt rules.nft box.txt in.pcap"):
             self.refused(command)
 
     def test_outputs_that_fail(self) -> None:
-        for command in ("doctor box.txt in.pcap >&-", "doctor box.txt in.pcap >/dev/full", "packet >&- ''"):
-            self.refused(command)
+        self.file("ip.txt", "2: lan    inet 192.168.1.1/24 scope global lan\n192.168.1.0/24 dev lan scope link\n")
+        for command in ("doctor box.txt in.pcap", "packet 'udp 192.0.2.1:1 > 192.0.2.2:2'", "fit-ruleset rules.nft",
+                        "box-from-ip ip.txt"):
+            self.refused(f"{command} >&-")
+            self.refused(f"{command} 2>told >/dev/full; status=$?; tail -n 1 told >&2; exit $status")
+        for command in ("why 1", "annotate", "report-to-json", "page", "beside-copies", "compare-rulesets rules.nft"):
+            self.refused(f"{command} {FILES} >&-")
+        self.refused(f"align {FILES} out.pcap >&-")
+        self.refused(f"start {FILES} first >&-")
 
     def test_what_steers_a_terminal(self) -> None:
         self.file("\x1b[31m.nft", "x")

@@ -10,7 +10,7 @@ from toolbox.captures import SENT_BY_US, TO_US, records, write_header
 from toolbox.checkup_run import of_router
 from toolbox.flows import Flows
 from toolbox.replay import Files, Replay
-from toolbox.router import Copies, Router, Way
+from toolbox.router import Copies, Router, Uncompared, Way
 
 UPLINK, UNKNOWN = 4, 9
 QUERY, ANSWER, SYN = (bytes.fromhex(PACKETS[name]) for name in ("UDP", "UDP_TO_HOST", "TCP_SYN"))
@@ -58,8 +58,8 @@ class WithoutARun(OfCapture):
         self.assertEqual((astray.packets, astray.first, router.flows), (2, [1, 3], {1, 2}))
         self.assertEqual(router.lines()[0], "the run isn't the router: 2 packets of 2 flows came by lan and left by "
                                             "wan2; the box file's routes lead to wan: records 1, 3")
-        self.assertEqual(router.not_compared(), "not compared: 2 flows, 2 records: what the rulesets change for these "
-                                                "isn't known")
+        self.assertEqual(router.not_compared().text(), "not compared: 2 flows, 2 records: what the rulesets change "
+                                                       "for these isn't known")
 
     def test_no_route_and_an_interface_that_the_box_file_lacks(self) -> None:
         router = Router(self.flows(*self.forwarded(UNKNOWN), box=BOX.replace("route 0.0.0.0/0 wan\n", "")), self.box)
@@ -96,7 +96,7 @@ class WithoutARun(OfCapture):
     def test_of_a_router_that_does_as_the_box_file_says(self) -> None:
         flows = Flows(self.capture("in.pcap", ROUTER), Box(self.file("box.txt", BOX)))
         router = Router(flows, Box(self.file("box.txt", BOX)))
-        self.assertEqual((bool(router), router.lines(), router.not_compared()), (False, [], None))
+        self.assertEqual((bool(router), router.lines(), router.not_compared()), (False, [], Uncompared(0, 0)))
         self.assertEqual([number for number, copy in enumerate(router.copies.of) if copy], [1, 3, 5, 9, 11])
 
 
@@ -148,7 +148,8 @@ class BesideARun(OfCapture):
         flows = self.flows(*self.forwarded(UPLINK), (2, UPLINK, TO_US, host), (2, LAN, SENT_BY_US, sent_on(host)))
         router = Router(flows, self.box, self.replay(flows))
         self.assertEqual((len(router.ways), router.flows), (1, {1}))
-        self.assertIn("1 flow, 2 records", router.not_compared() or "")
+        self.assertEqual(router.not_compared(), Uncompared(1, 2))
+        self.assertEqual([(way["left_by"], way["first"]) for way in router.ways_json()], [("wan2", [1])])
 
     def test_no_copies_at_all(self) -> None:
         flows = self.flows((1, LAN, TO_US, QUERY))

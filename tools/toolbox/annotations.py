@@ -68,7 +68,7 @@ def findings(guard: Guard, rules: str) -> Iterator[Finding]:
     for line in guard.nothing():
         yield Finding(None, "error", f"nothing was compared: {line}", None, None)
     for seen in guard.seen:
-        for line in filter(None, (*seen.router, seen.not_compared)):
+        for line in (*seen.router, *([seen.not_compared.text()] if seen.not_compared else [])):
             yield Finding(None, "error", f"{seen.capture}: {line}", None, None)
         if seen.is_torn:
             text = f"{seen.capture}: torn: it ends within record {seen.records + 1}"

@@ -113,7 +113,9 @@ def table_finding(table: Table, hosts: Counter[bytes], largest: int | None, tota
 
 
 def by_host(hosts: Counter[bytes]) -> dict[str, int]:
-    return {address_text(host): number for host, number in hosts.most_common(MOST_LISTED) if number}
+    """Those that have most, the lowest address first of several with as many."""
+    told = sorted(hosts.items(), key=lambda one: (-one[1], one[0]))[:MOST_LISTED]
+    return {address_text(host): number for host, number in told if number}
 
 
 def hosts_text(hosts: Counter[bytes]) -> str:

@@ -68,11 +68,10 @@ def shortened(line: str) -> str:
 
 
 class Parser(argparse.ArgumentParser):
-    """A parser whose refusals are lines like all others."""
+    """A parser whose refusals are a line, like all others."""
 
     def error(self, message: str) -> NoReturn:
-        self.print_usage(sys.stderr)
-        self.exit(REFUSED, shortened(printable(f"{self.prog}: error: {message}")) + "\n")
+        self.exit(REFUSED, shortened(printable(f"{self.prog}: {message}")) + f" (see {self.prog} --help)\n")
 
 
 def command_line(name: str, description: str) -> argparse.ArgumentParser:

@@ -114,17 +114,28 @@ class Evidence:
             for change in side.changes:
                 lines[side.is_met(change)][side.text(change)] = None
         self.unmet, self.untold = list(lines[False]), list(lines[None])
+        self.are_all_unmet = bool(lines[False]) and not lines[None] and not lines[True]
         names = {change.chain.name for side in self.sides for change in side.changes}
         self.touched = [(side, base) for side in self.sides for base in side.touched(names)]
 
     def nothing_compared(self) -> str | None:
-        """Why nothing was compared, or None: no record came to any rule, or to none of a stage where rules differ."""
+        """Why nothing was compared, or None: no record came to any rule, or to none of a stage where rules differ; or
+        there is one side alone of connections, so that none begins, and no packet met what differs."""
         if not any(side.reached for side in self.sides):
             return f"no record reached a rule ({self.outcomes_text()})"
         if not self.touched or any(base.name in side.reached for side, base in self.touched):
-            return None
+            return self.no_beginning()
         hooks = dict.fromkeys(base.hook or "" for _, base in self.touched)
         return f"the rulesets differ on {', '.join(hooks)}, and no record reached a rule there"
+
+    def no_beginning(self) -> str | None:
+        """That of all connections the beginning is missing, where no change was met: who could meet it may be there."""
+        flows = self.sides[0].sight.replay.flows
+        midway = flows.without_beginning()
+        if not self.are_all_unmet or not midway or midway < len(flows.some()):
+            return None
+        return (f"no connection begins in it ({plural(midway, 'TCP flow')} without a SYN, as where one side alone is "
+                "captured), and no packet met what differs")
 
     def outcomes_text(self) -> str:
         """How the records ended in the run of the old ruleset."""

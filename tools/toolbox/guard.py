@@ -8,6 +8,7 @@ from typing import TYPE_CHECKING, Iterable, Mapping, Sequence
 
 from toolbox.commands import DIFFERS, DONE, REFUSED, TORN, Refused, plural, read_text
 from toolbox.differences import BLOCKED, OPENED, OTHERWISE, REWRITTEN
+from toolbox.router import Uncompared
 
 if TYPE_CHECKING:
     from toolbox.differences import Group, Told
@@ -152,7 +153,7 @@ class Unmet:
 class Seen:
     """What is kept of the comparison over one capture: what differs, what no packet met, of what it can't be told, and
     why nothing was compared; `is_blind` is whether no record came to any rule. `router` are lines of what the router
-    did otherwise than the run of OLD, `not_compared` how many records these are."""
+    did otherwise than the run of OLD, `not_compared` how much that is."""
 
     capture: str
     judged: tuple[Judged, ...]
@@ -164,7 +165,7 @@ class Seen:
     records: int
     differ: int
     router: tuple[str, ...] = ()
-    not_compared: str | None = None
+    not_compared: Uncompared = Uncompared()
 
 
 class Guard:
@@ -207,8 +208,13 @@ class Guard:
     def otherwise(self) -> list[str]:
         """What isn't compared, a line for each capture: flows that the router sent on otherwise than the run of OLD."""
         several = len(self.seen) > 1
-        return [f"{seen.capture}: {seen.not_compared}" if several else seen.not_compared
+        return [f"{seen.capture}: {seen.not_compared.text()}" if several else seen.not_compared.text()
                 for seen in self.seen if seen.not_compared]
+
+    def not_compared(self) -> Uncompared:
+        """How much isn't compared of all captures."""
+        each = [seen.not_compared for seen in self.seen]
+        return Uncompared(sum(one.flows for one in each), sum(one.records for one in each))
 
     def fails_on(self) -> dict[Kind, int]:
         """By kind how many groups, or changes, are failed on."""

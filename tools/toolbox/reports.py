@@ -9,6 +9,7 @@ from typing import BinaryIO, Dict, Iterable, Iterator
 from toolbox.commands import Refused
 
 CHUNK = 1 << 20
+LONGEST = 1 << 20  # bytes of a line: names and prefixes of rules are far shorter
 MOST_DIGITS = 20
 # a record of a trace: the lines of its events, its number, its outcome
 TRACED = re.compile(rb"^((?:(?:trace|log) .*\n)*?)trace ([0-9]+) outcome (\w+)\n", re.MULTILINE)
@@ -199,6 +200,8 @@ class Summary:
                     self.take_lines(rest[:end], lines)
                     lines += rest.count(b"\n", 0, end)
                     rest = rest[end:]
+                    if len(rest) > LONGEST:
+                        raise Refused(f"{self.name}: line {lines + 1} is none of a report: it has over {LONGEST} bytes")
         except OSError as error:
             raise Refused(f"{path}: {error.strerror}") from None
         self.events: Counter[Decision | Log] = Counter()

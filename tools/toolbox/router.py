@@ -207,6 +207,21 @@ class Astray:
         return f"{word} {', '.join(map(str, self.first))}" + (", .." if self.packets > len(self.first) else "")
 
 
+@dataclass(frozen=True)
+class Uncompared:
+    """How much it is of which two rulesets can't be told apart by a run."""
+
+    flows: int = 0
+    records: int = 0
+
+    def __bool__(self) -> bool:
+        return bool(self.records)
+
+    def text(self) -> str:
+        flows = f"{plural(self.flows, 'flow')}, " if self.flows else ""
+        return f"not compared: {flows}{plural(self.records, 'record')}: what the rulesets change for these isn't known"
+
+
 class Router:
     """Where the router did otherwise than a run over the flows of its capture; without a run, than the box file's
     routes. `ways` has the packets of each way that differs, `flows` the flows that have some: what a run says of these
@@ -306,11 +321,16 @@ class Router:
         rest = sum(astray.packets for _, astray in told[MOST_WAYS:])
         return lines + ([f"    and {plural(rest, 'packet')} more that went otherwise"] if rest else [])
 
-    def not_compared(self) -> str | None:
-        """How much it is of which two rulesets can't be told apart by a run, or None."""
+    def not_compared(self) -> Uncompared:
+        """All records of the flows that have some, and those of no flow."""
         if not self.ways:
-            return None
+            return Uncompared()
         count = sum(flow in self.flows for flow in self.of.of) + sum(
             astray.packets for astray in self.ways.values() if not astray.flows)
-        flows = f"{plural(len(self.flows), 'flow')}, " if self.flows else ""
-        return f"not compared: {flows}{plural(count, 'record')}: what the rulesets change for these isn't known"
+        return Uncompared(len(self.flows), count)
+
+    def ways_json(self) -> list[dict[str, object]]:
+        """Each way as docs/JSON.md has it."""
+        return [{"came_by": way.came_by, "left_by": way.left_by, "routed": way.routed, "dropped": way.dropped,
+                 "packets": astray.packets, "flows": len(astray.flows), "first": astray.first}
+                for way, astray in self.told()]

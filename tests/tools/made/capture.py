@@ -9,6 +9,7 @@ They fit tests/tools/rules/router.box.txt (2 lan 192.168.1.1/24, 3 wan 203.0.113
   vlan        Ethernet: four frames with a tag of 802.1Q, each with an IPv4 packet
   offload     LINUX_SLL2: the packets of `forwarded` that enter, with an IPv4 header checksum of 0
   headers     the same as captured with a snap length: 28 bytes of each packet, which has 128
+  answers     of `forwarded` what the name server says alone: records 3 and 7, for the router's own address
   empty       the 24 bytes of a header alone
 """
 from __future__ import annotations
@@ -114,6 +115,9 @@ def capture(kind: str) -> bytes:
         link = sll2(one.interface, one.way)
         if kind == "forwarded":
             parts.append(record(one.seconds, link + one.packet))
+        elif kind == "answers":
+            if (one.interface, one.way) == (WAN, COMES):
+                parts.append(record(one.seconds, link + one.packet))
         elif one.way == COMES:
             packet = without_checksum(one.packet) if kind == "offload" else one.packet
             parts.append(record(one.seconds, link + packet, 48 if kind == "headers" else None))

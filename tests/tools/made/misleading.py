@@ -2,7 +2,8 @@
 
   python3 tests/tools/made/misleading.py KIND >in.pcap
 
-Times are in seconds. All but `mirrored`, `repeated` and `uplink` fit tests/tools/rules/router.box.txt.
+Times are in seconds. All but `mirrored`, `repeated`, `uplink` and `server-side` fit tests/tools/rules/router.box.txt,
+and `server-side` fits dmz.box.txt there.
 
   mirrored       Ethernet: each of 4 packets twice, 20 microseconds apart
   repeated       the same 4 packets, each again after 0.3 seconds, as hosts repeat what got no answer
@@ -15,8 +16,11 @@ Times are in seconds. All but `mirrored`, `repeated` and `uplink` fit tests/tool
   let-in         SYN, SYN and ACK, ACK of a connection from outside to 192.168.1.20 port 443, each with its copy
   earlier        an answer to UDP port 61000 of the router, which leaves to a host inside, and what that one says then
   uplink         a packet of a host of lan leaves by an interface of index 9, its answer comes by that one
+  server-side    what a web server of the DMZ says, each with its copy, and nothing of what it is asked
   table          a table of connections: at 1 to 5 a host begins one each second, at 4.5 and 5.5 another one, by UDP; at
                  303 the second host begins one more, by then the first two have expired
+  full           as many connections as a run holds, 1,048,576, and three more: each host of lan uses all 65,535 ports
+                 of UDP, so the 17th has 16, and the three
 """
 from __future__ import annotations
 
@@ -28,8 +32,9 @@ from capture import (
     COMES, HOSTS, LAN, LEAVES, ROUTER, SERVER, WAN, End, Sight, header, ip, pseudo, record, sll2, total, udp)
 
 OUTSIDE = End("198.51.100.9", 45000)
-SYN, ACK, SYN_ACK, PUSH = 2, 16, 18, 24
-UNKNOWN, UPLINK = 7, 9  # interfaces
+FIN, SYN, ACK, SYN_ACK, PUSH = 1, 2, 16, 18, 24
+DMZ, UNKNOWN, UPLINK = 4, 7, 9  # interfaces
+MOST_CONNECTIONS = 1048576
 
 
 def tcp(source: End, destination: End, ttl: int, flags: int, sequence: int, number: int,
@@ -93,6 +98,13 @@ def uplink() -> Iterator[Sight]:
     yield from both(2, UPLINK, LAN, udp(SERVER, outside, 64), udp(SERVER, HOSTS[0], 63))
 
 
+def server_side() -> Iterator[Sight]:
+    server = End("192.0.2.10", 80)
+    for number, flags in enumerate((SYN_ACK, PUSH, FIN | ACK), 1):
+        came, left = (tcp(server, OUTSIDE, ttl, flags, number, number) for ttl in (64, 63))
+        yield from both(number, DMZ, WAN, came, left)
+
+
 def table() -> Iterator[Sight]:
     first, second = HOSTS
     for number, (seconds, host) in enumerate((
@@ -107,10 +119,24 @@ KINDS: dict[str, Callable[[], Iterable[Sight]]] = {
     "clock-back": lambda: asking(FIRST, 1000, 1001, 901, 902),
     "clock-shaken": lambda: asking(FIRST, 1000, 1001, 1000.999, 1002),
     "to-the-box": to_the_box, "no-address": no_address, "let-in": let_in, "earlier": earlier, "uplink": uplink,
+    "server-side": server_side,
     "table": table}
 
 
+def full() -> Iterator[bytes]:
+    """Its records, each of 28 bytes of IPv4 and UDP."""
+    server = End(SERVER.address, SERVER.port)
+    head = struct.pack("<IIII", 10, 0, 48, 48) + sll2(LAN, COMES)
+    for number in range(MOST_CONNECTIONS + 3):
+        host, port = divmod(number, 65535)
+        if not port:
+            start = ip(End(f"192.168.1.{10 + host}", 0), server, 64, 17, 0, bytes(8))[:20]
+        yield head + start + struct.pack(">HHHH", port + 1, server.port, 8, 0)
+
+
 def capture(kind: str) -> bytes:
+    if kind == "full":
+        return header(276) + b"".join(full())
     if kind in ("mirrored", "repeated"):
         frame = bytes.fromhex("020000000001" "020000000002" "0800")
         packets = [udp(End(FIRST.address, 5000 + number), SERVER, 64) for number in range(4)]

@@ -1,0 +1,102 @@
+//! The lines about the connection table.
+use crate::fullness::{Fullness, initiators_at};
+use crate::hosts::Hosts;
+use crate::rerun::{MOST_RECORDS, Rerun, Step};
+use history::Cause;
+use std::alloc::{AllocError, Global};
+use std::io::Read;
+
+/// Nanoseconds of a second.
+const SECOND: u64 = 1_000_000_000;
+
+/// A line on the most connections that lived at once, with the record, its time and the hosts that
+/// began them; and one for each cause by which no connection could begin, with the senders.
+/// `path` begins each line.
+///
+/// At most 10,000,000 records are read. `first` and `again` are the same run.
+///
+/// # Errors
+/// `AllocError` for want of memory.
+pub fn table_remarks<R: Read + Drop>(
+    alloc: Global,
+    path: &str,
+    first: Rerun<R>,
+    again: Rerun<R>,
+) -> Result<String, AllocError> {
+    let fullness = Fullness::of(alloc, first)?;
+    let mut lines = String::new(alloc);
+    if let Some(step) = fullness.fullest {
+        let hosts = Hosts::of(alloc, initiators_at(alloc, again, step.number)?)?;
+        write_fullest(path, step, &hosts, &mut lines)?;
+    }
+    if fullness.records >= MOST_RECORDS {
+        writeln!(
+            lines,
+            "{path}: beyond record {MOST_RECORDS} connections aren't counted"
+        )?;
+    }
+    let Fullness {
+        records: _,
+        fullest: _,
+        without_port,
+        without_room,
+        clashing,
+    } = fullness;
+    write_dropped(alloc, path, Cause::NoPort, without_port, &mut lines)?;
+    write_dropped(alloc, path, Cause::Full, without_room, &mut lines)?;
+    write_dropped(alloc, path, Cause::Clash, clashing, &mut lines)?;
+    Ok(lines)
+}
+
+/// Writes how many connections lived when they were most.
+fn write_fullest(
+    path: &str,
+    step: Step,
+    hosts: &Hosts,
+    lines: &mut String,
+) -> Result<(), AllocError> {
+    let most = step.live;
+    let word = if most == 1 {
+        "connection"
+    } else {
+        "connections"
+    };
+    let number = step.number;
+    let seconds = step.moment / SECOND;
+    let rest = step.moment % SECOND;
+    writeln!(
+        lines,
+        "{path}: {most} {word} at once at most, at record {number} ({seconds}.{rest:09}), of {hosts}"
+    )
+}
+
+/// Writes whose packets were dropped for a cause, if any were.
+fn write_dropped(
+    alloc: Global,
+    path: &str,
+    cause: Cause,
+    senders: Vec<u32>,
+    lines: &mut String,
+) -> Result<(), AllocError> {
+    let count = senders.len();
+    if count == 0 {
+        return Ok(());
+    }
+    let word = if count == 1 { "packet" } else { "packets" };
+    let cause_word = cause.report_word();
+    let hosts = Hosts::of(alloc, senders)?;
+    let why = reason(cause);
+    writeln!(
+        lines,
+        "{path}: {count} {word} dropped for `{cause_word}`, of {hosts}: {why}"
+    )
+}
+
+/// Why no connection could begin.
+fn reason(cause: Cause) -> &'static str {
+    match cause {
+        Cause::NoPort => "no port was left for their source",
+        Cause::Full => "the connection table was full",
+        _ => "their answers would belong to another connection",
+    }
+}
