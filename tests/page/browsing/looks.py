@@ -4,7 +4,7 @@ from __future__ import annotations
 
 import os
 from dataclasses import dataclass
-from typing import TYPE_CHECKING
+from typing import TYPE_CHECKING, Mapping
 
 if TYPE_CHECKING:
     from browsing.browser import Browser
@@ -29,8 +29,9 @@ LOOKS = (
     Look("light", 1440), Look("dark", 1440, scheme="dark"), Look("1024 px", 1024), Look("768 px", 768, scheme="dark"),
     Look("390 px", 390), Look("390 px, dark", 390, scheme="dark"), Look("320 px", 320), Look("print", 718, "print"))
 # what a reader has on the page: a record that was chosen, a search without an answer, the keys
+AS_OPENED = "as opened"
 STATES = {
-    "as opened": "document.getElementById('help').close(); location.hash = ''",
+    AS_OPENED: "document.getElementById('help').close(); location.hash = ''",
     "with a record": "location.hash = '#record=1'",
     # of browsing.made: the first that the new ruleset drops; elsewhere a record that may not be there
     "with a dropped record": "location.hash = '#record=3743'",
@@ -45,13 +46,13 @@ def measure() -> str:
         return file.read()
 
 
-def try_looks(browser: Browser, checks: Checks, page: str, name: str) -> None:
-    """A page in all windows."""
+def try_looks(browser: Browser, checks: Checks, page: str, name: str, states: Mapping[str, str] = STATES) -> None:
+    """A page in all windows, and in each of these states."""
     for look in LOOKS:
         browser.window(look.width, 1000, look.media, look.scheme)
         browser.open(page)
         browser.value(measure())
-        for state, act in STATES.items():
+        for state, act in states.items():
             browser.value(act)
             # the whole of it, so that all texts are in the window
             height = browser.value("document.documentElement.scrollHeight")
