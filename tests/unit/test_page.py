@@ -15,6 +15,7 @@ from pages.verdict import verdict  # noqa: E402
 from toolbox.differences import BLOCKED, OPENED, OTHERWISE, REWRITTEN  # noqa: E402
 from toolbox.evidence import changes_of  # noqa: E402
 from toolbox.guard import Seen, Unmet  # noqa: E402
+from toolbox.router import Uncompared  # noqa: E402
 from toolbox.rulesets import Ruleset  # noqa: E402
 
 BASE = """table inet f {
@@ -114,7 +115,7 @@ class BothTexts(unittest.TestCase):
         self.assertEqual(set(MEANS), set(Mark) - {Mark.SAME})
 
 
-def seen(nothing: str | None = None, not_compared: str | None = None, unmet: int = 0, untold: int = 0,
+def seen(nothing: str | None = None, not_compared: Uncompared = Uncompared(), unmet: int = 0, untold: int = 0,
          is_torn: bool = False) -> Seen:
     return Seen("in.pcap", (), tuple(Unmet(f"new: {one}", "new.nft", one) for one in range(unmet)),
                 tuple(map(str, range(untold))), nothing, False, is_torn, 1234, 0, (), not_compared)
@@ -134,8 +135,7 @@ class Verdicts(unittest.TestCase):
         self.assertEqual(told.text, "Nothing was compared: no record reached a rule (none is in it); 2 changes were "
                                     "met by no packet: nothing is known of that.")
         self.assertEqual(told.tone, "unknown")
-        part = verdict(seen(not_compared="not compared: 3 flows, 14 records: what the rulesets change for these isn't "
-                                         "known"), {}, [])
+        part = verdict(seen(not_compared=Uncompared(3, 14)), {}, [])
         self.assertEqual(part.text, "Not compared: 3 flows, 14 records: what the rulesets change for these isn't "
                                     "known; nothing differs in the rest of this capture.")
         self.assertEqual(part.tone, "unknown")

@@ -34,7 +34,7 @@ def verdict(seen: Seen, connections: Mapping[str, int], unsettled: Sequence[str]
 
 def uncompared(seen: Seen) -> str | None:
     """How much it is of which the rulesets weren't compared."""
-    return seen.not_compared
+    return seen.not_compared.text() if seen.not_compared else None
 
 
 def differences(seen: Seen, connections: Mapping[str, int]) -> str | None:
