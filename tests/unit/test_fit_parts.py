@@ -312,6 +312,10 @@ class Unread(PartsCase):
         self.assertIn(("guess", "meta nftrace 1"), told)
         self.assertIn(("outcome", "ct label set 5"), told)
         self.assertEqual(self.grade("ip dscp set cs1"), "outcome")
+        copied = "meta secmark set ct secmark\nct secmark set meta secmark"
+        self.assertEqual(self.grade(copied), "outcome")
+        self.assertEqual(self.grade(f"{copied}\nct secmark 5 accept"), "guess")
+        self.check({"meta secmark set ct secmark accept": [f"{TRACKED} accept"]})
         joined = self.fit("ip dscp set cs1\nip saddr . ip dscp { 10.0.0.1 . cs1 } accept")
         self.assertIn("rules.nft:26)", next(it.why for it in joined.changes.list if it.to == "without ip dscp"))
 

@@ -68,6 +68,8 @@ class Writes:
             self.draft.keep_tests(left)
         if isinstance(operand, Lookup):
             self.keep_lookup(operand)
+        elif isinstance(operand, Selector):
+            self.matches.unread.keep_key(operand)
 
     def find_objects(self, kind: str, operand: Expression) -> None:
         """Missing where the helper, timeout or expectation that is set isn't defined in the table."""
