@@ -198,7 +198,7 @@ class RuleReader(ExpressionReader):
         operands = [self.operand()]
         if self.skip("device"):
             operands.append(self.operand())
-        return LeftOut("outcome", "the copy isn't shown", tuple(operands))
+        return LeftOut("outcome", "the copy isn't shown, nor what it counts in postrouting", tuple(operands))
 
     def read_flow(self) -> Offload:
         self.take("word", "add", "offload")
