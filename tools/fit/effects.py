@@ -69,7 +69,8 @@ class Effects:
         )
 
     def fit_reject(self, *_: str) -> None:
-        self.draft.tell("outcome", "drop", "the packet is dropped as well; the answer isn't shown, nor what it counts in postrouting")
+        why = "the packet is dropped as well; the answer isn't shown, nor what it counts in postrouting"
+        self.draft.tell("outcome", "drop", why)
         self.draft.put("drop", "end")
 
     def fit_queue(self) -> None:
