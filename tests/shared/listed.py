@@ -70,6 +70,8 @@ TESTS = (
     Test("terminal", "test-terminal", Place.PROGRAMS, "colours and escapes on a terminal"),
     Test("install", "install/test-install", Place.PROGRAMS, "installing, README's ten minutes, packing, removing"),
     Test("page", "page/test-page", Place.PROGRAMS, "the page in Chromium, where that is (--look RULES BOX IN)"),
+    Test("rulesets", "fuzz/fuzz-rulesets", Place.PROGRAMS, "damaged rulesets, fitted and checked (--runs N)",
+         words=("--runs", "200")),
     Test("python", "test-python", Place.PROGRAMS, "types, style and reach of the Python; unit tests, tools",
          Wanted.WHERE_BUILT),
     Test("unit", "unit/run-unit", Place.WITHIN, "functions of the tools and tests (-k NAME: one)", Wanted.NONE),

@@ -248,6 +248,41 @@ class Unread(PartsCase):
         self.check(table)
         self.check_refused({"meta protocol strange accept": "isn't known", "symhash mod 2 \"x\" accept": "isn't known"})
 
+    def test_messages_that_have_a_field(self) -> None:
+        """What nft 1.0.6 tests first (`nft --debug=netlink`)."""
+        icmp, echoes = "meta l4proto icmp", "icmp type { echo-reply, echo-request }"
+        self.check({
+            "icmp id 0-65535 accept": [f"{icmp} {echoes} accept"],
+            "icmp sequence 5 accept": [f"{icmp} {echoes} {NEVER} accept"],
+            "icmp gateway != 1 accept": [f"{icmp} icmp type redirect accept"],
+            "icmp mtu > 100 accept": [f"{icmp} icmp type destination-unreachable accept"],
+            "icmp type echo-request icmp id != 7 accept": ["icmp type echo-request accept"],
+            "icmp id . icmp sequence { 1 . 2 } accept": [f"{icmp} {echoes} {NEVER}"],
+            "icmp id vmap { 0-65535 : accept }": [f"{icmp} {echoes} accept"],
+            "icmp code 0 accept": [f"{icmp} accept"],
+        })
+
+    def test_what_has_no_value_before_routing(self) -> None:
+        matches = ("rt classid 0", "rt nexthop != 10.0.0.1", "meta rtclassid 0", "rt ipsec missing")
+        self.check({f"{it} accept": [NEVER] for it in matches}, "pre")
+        self.check({"rt classid vmap { 0 : accept }": [NEVER], "meta skuid vmap { 0 : accept }": [NEVER],
+                    "meta rtclassid . ip saddr { 0 . 10.0.0.1 } accept": [f"{NEVER} ip saddr {{ 10.0.0.1 }} accept"],
+                    "meta oifgroup . ip saddr != { 5 . 10.0.0.1 } accept": [
+                        f"{NEVER} ip saddr != {{ 10.0.0.1 }} accept"]}, "pre")
+        self.assertEqual({self.grade(f"{it} accept", "pre") for it in matches}, {"same"})
+        self.assertEqual(self.grade("rt classid 0 accept", "forward"), "guess")
+
+    def test_usual_values(self) -> None:
+        self.check({
+            "meta priority none accept": ["accept"],
+            "meta priority root accept": [f"{NEVER} accept"],
+            "meta sdif 0 accept": ["accept"],
+            "tcp reserved 0 accept": ["meta l4proto tcp accept"],
+            "tcp reserved 0-15 accept": ["meta l4proto tcp accept"],
+            "tcp urgptr != 0 accept": [f"meta l4proto tcp {NEVER} accept"],
+        })
+        self.assertEqual(self.grade("tcp reserved 0-15 accept"), "same")
+
     def test_turned(self) -> None:
         self.check({
             "tcp window > 5 accept": [f"meta l4proto tcp {NEVER} accept"],
@@ -277,6 +312,12 @@ class Unread(PartsCase):
         self.assertIn(("guess", "meta nftrace 1"), told)
         self.assertIn(("outcome", "ct label set 5"), told)
         self.assertEqual(self.grade("ip dscp set cs1"), "outcome")
+        copied = "meta secmark set ct secmark\nct secmark set meta secmark"
+        self.assertEqual(self.grade(copied), "outcome")
+        self.assertEqual(self.grade(f"{copied}\nct secmark 5 accept"), "guess")
+        self.check({"meta secmark set ct secmark accept": [f"{TRACKED} accept"]})
+        joined = self.fit("ip dscp set cs1\nip saddr . ip dscp { 10.0.0.1 . cs1 } accept")
+        self.assertIn("rules.nft:26)", next(it.why for it in joined.changes.list if it.to == "without ip dscp"))
 
 
 class Joining(PartsCase):
@@ -437,6 +478,34 @@ class Effects(PartsCase):
         self.check({two: ["ip ttl 5 accept", "ip saddr { 10.0.0.9 } counter drop"]}, chosen={"dynamic": "hit"})
         self.check_refused({"add @seen { ip saddr last } drop": "isn't understood", 'limit name "x"': "no limit x",
                             'limit name tcp dport map { 22 : "slowly" } drop': "limit by a map"})
+
+    def test_full_sets(self) -> None:
+        """Where a set is full, Linux ends the rule that would add to it."""
+        self.check({
+            "add @seen { ip saddr } drop": [f"{NEVER} drop"],
+            "add @seen { ip saddr }": ["ip length != 0"],
+            "meter m size 256 { ip protocol limit rate 5/second } accept": ["accept"],
+            "meter m size 255 { ip protocol limit rate 5/second } accept": [f"{NEVER} accept"],
+            "delete @seen { ip saddr } accept": ["accept"],
+        }, chosen={"room": "full"})
+        add = "set one { type ipv4_addr; size 1; flags dynamic; elements = { 10.0.0.5 }; }\n"
+        add += "chain added { type filter hook forward priority 9; update @one { ip saddr } accept; }"
+        told = self.fit(add, "add")
+        self.assertIn("ip saddr { 10.0.0.5 } accept", told.text)
+        self.assertEqual(self.grade("add @seen { ip saddr } drop"), "guess")
+        self.assertEqual(self.grade("add @seen { ip saddr }"), "outcome")
+        self.assertEqual(self.grade("meter m size 256 { ip protocol } accept"), "outcome")
+
+    def test_keys_without_a_value(self) -> None:
+        self.check({
+            "add @seen { meta skuid } accept": [NEVER],
+            "add @seen { ip saddr . tcp option maxseg size } accept": [f"meta l4proto tcp {NEVER} accept"],
+            "add @seen { ct helper } accept": [f"{TRACKED} {NEVER} accept"],
+            "meta mark set jhash icmp id mod 1": [
+                "meta l4proto icmp icmp type { echo-reply, echo-request } meta mark set 0"],
+        })
+        self.check({"add @seen { rt classid } accept": [NEVER], "add @seen { meta oifgroup } accept": [NEVER]}, "pre")
+        self.check({"add @seen { ct helper } accept": [f"{TRACKED} accept"]}, chosen={"helper": "hit"})
 
     def test_others(self) -> None:
         self.check({

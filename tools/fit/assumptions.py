@@ -32,6 +32,7 @@ ASSUMPTIONS = {
     "random": Assumption(("first", "last"), "the number or hash that is drawn is the first one"),
     "queue": Assumption(("accept", "drop"), "the program behind the queue accepts"),
     "dynamic": Assumption(("listed", "hit"), "no packet adds to the set: it has what is listed"),
+    "room": Assumption(("free", "full"), "sets have room for what rules add; where one is full, Linux ends the rule"),
     "timeout": Assumption(("keep", "gone"), "no element runs out"),
     "helper": Assumption(("miss", "hit"), "no connection has a helper"),
     "fib": Assumption(("miss", "hit"), "the routing table says otherwise; --box BOX knows more"),

@@ -5,7 +5,7 @@ from __future__ import annotations
 from typing import TYPE_CHECKING, Iterable, Iterator, Sequence
 
 from .changes import Changes
-from .facts import MARKS, TRANSPORTS, first_word
+from .facts import ICMP_FIELDS, MARKS, TRANSPORTS, first_word
 from .numbers import spell_value
 from .profile import takes
 from .scanner import place, shown, slice_of, spelled
@@ -145,6 +145,10 @@ class Draft:
         for header in dict.fromkeys(first_word(it.name) for it in selectors_in(operands)):
             if header in TRANSPORTS and not all(self.asks_for(header, line) for line in self.lines):
                 self.put(f"meta l4proto {spell_value(Value('word', header), 'inet_proto')}")
+        for words in dict.fromkeys(ICMP_FIELDS[it.name] for it in selectors_in(operands) if it.name in ICMP_FIELDS):
+            text = f"icmp type {words[0]}" if len(words) == 1 else f"icmp type {{ {', '.join(words)} }}"
+            if not all(self.has_one(line, [text, *(f"icmp type {it}" for it in words)]) for line in self.lines):
+                self.put(text)
         for selector in selectors_in(operands):
             if selector.name.startswith("ct ") and selector.name not in ("ct state",):
                 self.put("ct direction { original, reply }")
@@ -154,6 +158,11 @@ class Draft:
         """Whether a line has a match that wants this protocol."""
         begins = f"{header} ", f"meta l4proto {header}"
         return any(it.text.startswith(begins) and it.kind == "match" for it in line)
+
+    @staticmethod
+    def has_one(line: Sequence[Piece], texts: Sequence[str]) -> bool:
+        """Whether a line has one of these matches."""
+        return any(it.text in texts and it.kind == "match" for it in line)
 
     # what is told
 

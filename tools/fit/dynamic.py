@@ -6,9 +6,11 @@ from dataclasses import dataclass
 from typing import Callable, Sequence
 
 from .draft import Draft
+from .facts import FIELD_WIDTHS, TYPES, WIDTHS
 from .scanner import place, spelled
-from .tree import Bound, ChangeOfSet, Element, Match, Missing, Rule, Set
+from .tree import Bound, ChangeOfSet, Element, Expression, Joined, Match, Missing, Rule, Selector, Set
 
+SIZE = 65535  # of a set that rules add to, where the text names none
 BOUNDS = {"limit": "limit", "quota": "quota", "ct": "connections"}  # words of elements, and the guesses of these
 
 
@@ -58,6 +60,28 @@ class Dynamic:
                 bound.kind, way, "what is listed alone", why=f"what is listed has no bounds; of all else {why}"
             )
         ask_for(listed)
+
+    def fit_room(self, change: ChangeOfSet, ask_for: Callable[[Sequence[Element]], None]) -> None:
+        """Where a set is full, a rule that would add to it ends; `ask_for` asks whether the key is listed."""
+        found = self.draft.table.sets.get(change.name)
+        size = change.size or (found.size if found else None) or SIZE
+        if self.draft.is_last() or self.is_over() or keys_of(change.key) <= size:
+            return
+        listed = self.draft.fitter.sets.kept(found) if found else []
+        is_full = len(listed) >= size
+        way = self.draft.way("room")
+        if is_full:
+            why = f"assumed: no element of {change.name}, which is full, runs out or is deleted; else Linux adds one"
+            self.draft.guess("room", way, "what is listed alone", why=why)
+            ask_for(listed)
+        else:
+            self.draft.guess("room", way, "always" if way == "free" else self.draft.never())
+            if way == "full":
+                self.draft.put(self.draft.never())
+
+    def is_over(self) -> bool:
+        """Whether the rule is assumed to have ended already."""
+        return all(any(it.text == self.draft.never() for it in line) for line in self.draft.lines)
 
     def is_there(self, other: Other) -> bool:
         """Whether another rule is assumed to have added the element before."""
@@ -116,3 +140,14 @@ class Dynamic:
         bounds = list(dict.fromkeys([*found.bounds, *(bound for it in own for bound in it)]))
         for bound in bounds:
             self.fit_bound(bound)
+
+
+def keys_of(key: Expression) -> int:
+    """How many values a key may have; of a selector whose width isn't known as many as of the widest."""
+    parts = key.parts if isinstance(key, Joined) else (key,)
+    return 1 << sum(width_of_selector(it.name) if isinstance(it, Selector) else max(WIDTHS.values()) for it in parts)
+
+
+def width_of_selector(name: str) -> int:
+    kind = TYPES.get(name, "")
+    return int(kind) if kind.isdigit() else WIDTHS.get(kind) or FIELD_WIDTHS.get(name) or max(WIDTHS.values())

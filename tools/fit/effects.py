@@ -69,7 +69,8 @@ class Effects:
         )
 
     def fit_reject(self, *_: str) -> None:
-        self.draft.tell("outcome", "drop", "the packet is dropped as well, the answer isn't shown")
+        why = "the packet is dropped as well; the answer isn't shown, nor what it counts in postrouting"
+        self.draft.tell("outcome", "drop", why)
         self.draft.put("drop", "end")
 
     def fit_queue(self) -> None:
@@ -139,7 +140,7 @@ class Effects:
 
     def fit_left_out(self, it: LeftOut) -> None:
         self.draft.tell(it.grade, "left out", it.why)
-        self.draft.keep_tests(*it.operands)
+        self.matches.unread.keep_key(*it.operands)
 
     def fit_offload(self) -> None:
         way = self.draft.way("offload")
@@ -160,9 +161,10 @@ class Effects:
             )
         else:
             self.draft.tell("outcome", "left out", f"what is in {name} isn't shown")
-        self.draft.keep_tests(change.key, change.data)
-        if change.word != "delete":
+        self.matches.unread.keep_key(change.key, change.data)
+        if change.word != "delete" and not self.draft.is_dead:
             self.dynamic.fit_bounds(change, lambda listed: self.ask_for(change.key, listed))
+            self.dynamic.fit_room(change, lambda listed: self.ask_for(change.key, listed))
 
     def ask_for(self, key: Expression, listed: Sequence[Element]) -> None:
         """A match for the keys of some elements."""

@@ -87,6 +87,14 @@ TRANSPORTS = {
     "gre": 47,
 }
 
+# the messages that a match on a field of ICMP asks for first
+ICMP_FIELDS = {
+    "icmp id": ("echo-reply", "echo-request"),
+    "icmp sequence": ("echo-reply", "echo-request"),
+    "icmp gateway": ("redirect",),
+    "icmp mtu": ("destination-unreachable",),
+}
+
 # Selectors that nftrun doesn't read. A fact: what every packet of a run has, or is assumed to have. `needs` is what
 # must hold of the packet for there to be a value.
 
@@ -148,8 +156,11 @@ KNOWN = {
     "meta oiftype": Fact(1, "meta", "every interface is Ethernet", "", LINK_TYPES),
     "meta rtclassid": Fact(0, "route", "no route has a realm"),
     "rt classid": Fact(0, "route", "no route has a realm"),
-    "meta priority": Fact(0, "meta", "every packet has priority 0"),
+    "meta priority": Fact(0, "meta", "every packet has priority 0", "", {"none": 0, "root": 0xFFFFFFFF}),
+    "meta sdif": Fact(0, "meta", "no interface is in a VRF"),
     "tcp doff": Fact(5, "header", "no TCP packet has options"),
+    "tcp reserved": Fact(0, "header", "no TCP packet has reserved bits"),
+    "tcp urgptr": Fact(0, "header", "no TCP packet is urgent"),
     "meta random": Fact(0, "random", "the number that is drawn is the first one", other=(1 << 32) - 1),
     "meta cpu": Fact(0, "random", "the first processor takes every packet"),
     **{
@@ -171,7 +182,11 @@ FIELD_WIDTHS = {
     **{name: 8 for name in ("igmp type", "igmp mrt", "ah hdrlength", "comp flags")},
     "tcp reserved": 4,
 }
+BY_ROUTE = ("rt", "meta rtclassid")  # what has no value before routing; of these the selector or its first word
 OPTIONS = ("tcp option", "ip option", "sctp chunk", "dccp option")  # of which packets are assumed to have none
+OWNERS = ("meta skuid", "meta skgid", "meta cgroup")
+# what a packet may lack beside its protocol and connection, by how the selector begins
+MAY_LACK = (*OPTIONS, *OWNERS, "meta iifkind", "meta oifkind", "ct helper", "socket", "osf")
 # of all other selectors: by the selector or its first word, which assumption is made
 UNKNOWN = {
     "fib": "fib",

@@ -2,9 +2,9 @@
 from __future__ import annotations
 
 from dataclasses import dataclass, replace
-from typing import TYPE_CHECKING, Callable, Iterable, Iterator
+from typing import TYPE_CHECKING, Callable, Container, Iterable, Iterator
 
-from .facts import CHAIN_HOOKS, MARKS
+from .facts import CHAIN_HOOKS, LEFT_OUT, MARKS
 from .marks import Marks
 from .order import Order
 from .protocols import Protocols
@@ -18,6 +18,7 @@ from .tree import (
     Match,
     NotFitted,
     Rule,
+    Selector,
     Setting,
     Table,
     Untracked,
@@ -56,9 +57,11 @@ def selectors_written(it: What) -> list[str]:
     return [it.left.name] if isinstance(it, Setting) else []
 
 
-def selectors_asked(it: What) -> list[str]:
-    """What a statement reads."""
+def selectors_asked(it: What, unasked: Container[str] = ()) -> list[str]:
+    """What a statement reads, but where it writes that into what nothing asks for."""
     parts = (it.operand,) if isinstance(it, Setting) else (it,)
+    if isinstance(it, Setting) and it.left.name in unasked and isinstance(it.operand, Selector):
+        return []
     return [selector.name for selector in selectors_in(parts)]
 
 
@@ -98,7 +101,8 @@ class Fitter:
             isinstance(it.what, Untracked) for _, _, rule in self.rules() for it in rule.statements
         )
         self.protocols = Protocols(self)
-        self.written, self.asked = self.places(selectors_written), self.places(selectors_asked)
+        self.written = self.places(selectors_written)
+        self.asked = self.places_asked()
         self.order.settle()
         if self.rates is not None:
             self.rates.begin(self)
@@ -120,6 +124,15 @@ class Fitter:
                     found.setdefault(name, [])
                     found[name] += [where] if where not in found[name] else []
         return found
+
+    def places_asked(self) -> dict[str, list[str]]:
+        """Of selectors the places where what they read decides something, or is written into what does."""
+        unasked, asked = set(self.written) & set(LEFT_OUT), dict[str, list[str]]()
+        while True:
+            asked = self.places(lambda it: selectors_asked(it, unasked))
+            if unasked.isdisjoint(asked):
+                return asked
+            unasked -= set(asked)
 
     def leave_out_tables(self) -> None:
         for key, table in list(self.tables.items()):

@@ -27,6 +27,7 @@ from .tree import (
     Selector,
     Value,
 )
+from .unread import reason
 
 Key = Tuple[Part, ...]
 Then = Callable[[Element], List[Piece]]  # the pieces for what an element of a map gives
@@ -161,6 +162,11 @@ class JoinedKeys:
         return names, list(dict.fromkeys(keys))
 
     def without(self, index: int, name: str, keys: Sequence[Key]) -> list[Key]:
+        why_never = self.matches.unread.why_never(name)
+        if why_never:
+            self.draft.tell("same", self.draft.never(), why_never)
+            self.draft.put(self.draft.never())
+            return [key[:index] + key[index + 1 :] for key in keys]
         fact, assumption = self.matches.unread.fact_of(name), assumption_of(name)
         self.matches.unread.keep_header(name)
         if fact is not None and fact.needs:
@@ -177,7 +183,8 @@ class JoinedKeys:
                 if not is_usual
                 else [key for key in keys if fact and holds(fact.value, "", key[index], "32", fact.words)]
             )
-            self.draft.guess(assumption, way, f"without {name}")
+            known = self.matches.unread.known(name, fact.why if fact else None)
+            self.draft.guess(assumption, way, f"without {name}", why=reason(assumption, way, known))
         return [key[:index] + key[index + 1 :] for key in kept]
 
     # ways to say that joined values are one of some keys

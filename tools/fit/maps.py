@@ -29,6 +29,7 @@ from .tree import (
     Selector,
     Verdict,
 )
+from .unread import reason
 
 
 class Maps:
@@ -190,6 +191,11 @@ class Maps:
                 "!=", lambda: self.choose_plain(key, Elements(tuple(elements)), elements, False)
             )
             return
+        why_never = self.matches.unread.why_never(name)
+        if why_never:
+            self.draft.tell("same", self.draft.never(), why_never)
+            self.draft.die()
+            return
         fact, assumption = self.matches.unread.fact_of(name), assumption_of(name)
         self.matches.unread.keep_header(name)
         chosen = self.known_elements(name, elements) if fact is not None or name in FIELD_WIDTHS else []
@@ -204,10 +210,8 @@ class Maps:
             if not is_usual or fact is None and way == "hit":
                 chosen = self.other_elements(name, elements, chosen)
             known = self.matches.unread.known(name, fact.why if fact else None)
-            other = ASSUMPTIONS[assumption].ways[1]
-            why = f"assumed: {known}; --assume {assumption}={other} takes the other" if known and is_usual else None
             to = verdict_text(chosen[0].verdict) if chosen else self.draft.never()
-            self.draft.guess(assumption, way, to, why=why)
+            self.draft.guess(assumption, way, to, why=reason(assumption, way, known))
         self.draft.split([self.ending(it) for it in chosen])
 
     @staticmethod
@@ -287,6 +291,6 @@ class Maps:
         number, way = self.matches.number_drawn(drawn)
         chosen = [it for it in elements if holds(number, "", it.key[0], "32", {})][:1]
         pieces = then(chosen[0]) if chosen else [self.draft.piece(self.draft.never())]
-        self.draft.keep_tests(drawn.over)
+        self.matches.unread.keep_key(drawn.over)
         self.matches.tell_drawn(way, pieces[-1].text)
         self.draft.lines = [line + pieces for line in self.draft.lines]

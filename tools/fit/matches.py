@@ -7,7 +7,7 @@ from typing import Sequence
 from .connections import IN_ANY_DIRECTION, Connections, are_known, bits_of
 from .draft import Draft
 from .dynamic import Dynamic
-from .exits import EXITS, OF_EXITS, Exits, holds_without
+from .exits import EXITS, Exits, holds_without
 from .facts import BITS, KNOWN, MARKS, NEVER_IN_IPV4, SHORT, TCP_FLAGS, TYPES, WORDS, assumption_of, first_word
 from .network import Network, spelled_networks
 from .numbers import (
@@ -47,8 +47,6 @@ from .tree import (
 )
 from .unread import Unread
 
-OWNERS = ("meta skuid", "meta skgid", "meta cgroup")
-WITHOUT_OWNER = {"prerouting", "forward", "postrouting", "output"}
 ORDERS = ("<", ">", "<=", ">=")
 YES_NO = (One(Value("word", "missing")), One(Value("word", "exists")))
 
@@ -87,12 +85,9 @@ class Matches:
         if name.startswith("fib "):
             self.match_fib(name, operator, right)
             return
-        if name in OWNERS and self.draft.chain.hooks and self.draft.chain.hooks <= WITHOUT_OWNER:
-            self.draft.tell("same", self.draft.never(), "a packet that is forwarded is of no process")
-            self.draft.die()
-            return
-        if name in OF_EXITS and self.exits.are_none():
-            self.draft.tell("same", self.draft.never(), "on prerouting and input no packet has an output interface")
+        why_never = self.unread.why_never(name)
+        if why_never:
+            self.draft.tell("same", self.draft.never(), why_never)
             self.draft.die()
             return
         if name == "ct protocol":
@@ -105,7 +100,7 @@ class Matches:
         answer = holds(number, operator, right, "32", {})
         if answer is None:
             raise NotFitted("a value that isn't known")
-        self.draft.keep_tests(drawn.over)
+        self.unread.keep_key(drawn.over)
         self.tell_drawn(way, "always" if answer else self.draft.never())
         if not answer:
             self.draft.put(self.draft.never())

@@ -198,7 +198,7 @@ class RuleReader(ExpressionReader):
         operands = [self.operand()]
         if self.skip("device"):
             operands.append(self.operand())
-        return LeftOut("outcome", "the copy isn't shown", tuple(operands))
+        return LeftOut("outcome", "the copy isn't shown, nor what it counts in postrouting", tuple(operands))
 
     def read_flow(self) -> Offload:
         self.take("word", "add", "offload")
@@ -283,10 +283,9 @@ class RuleReader(ExpressionReader):
         """`meter NAME { KEY limit rate .. }`: a set of its own."""
         name = self.peek()
         self.name()
-        if self.skip("size"):
-            self.number()
+        size = self.number() if self.skip("size") else None
         self.tokens = [*self.tokens[: self.at], replace(name, kind="word"), *self.tokens[self.at :]]
-        return self.change_of_set("add")
+        return replace(self.change_of_set("add"), size=size)
 
 
 def begins_with_selector(it: Expression) -> bool:

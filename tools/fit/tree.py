@@ -215,13 +215,14 @@ class Bound:
 
 @dataclass(frozen=True)
 class ChangeOfSet:
-    """`add @name { key limit .. : data }`"""
+    """`add @name { key limit .. : data }`, and `meter name size .. { key limit .. }`"""
 
     word: str
     name: str
     key: Expression
     data: Expression | None
     bounds: tuple[Bound, ...]
+    size: int | None = None  # of the set that a meter makes
 
 
 @dataclass(frozen=True)

@@ -6,10 +6,12 @@ from typing import Callable
 from .assumptions import ASSUMPTIONS
 from .connections import IN_ANY_DIRECTION
 from .draft import Draft
-from .facts import FIELD_WIDTHS, KNOWN, OPTIONS, Fact, assumption_of
+from .exits import OF_EXITS, WITHOUT
+from .facts import BY_ROUTE, FIELD_WIDTHS, KNOWN, MAY_LACK, OPTIONS, OWNERS, Fact, assumption_of, first_word
 from .numbers import holds, share
-from .tree import Elements, Expression, Mapping, Missing, Named, NotFitted, One, Selector, Value
+from .tree import Elements, Expression, Mapping, Missing, Named, NotFitted, One, Selector, Value, selectors_in
 
+WITHOUT_OWNER = {"prerouting", "forward", "postrouting", "output"}
 MISSING, EXISTS = One(Value("word", "missing")), One(Value("word", "exists"))
 YES_NO = (MISSING, EXISTS)
 
@@ -26,6 +28,8 @@ class Unread:
             right = self.elements_named(right)
         if not is_absence(name, operator, right):
             self.keep_header(name)
+        if self.is_certain(name, operator, right):
+            return
         if fact is None:
             self.match_unknown(name, operator, right)
             return
@@ -41,6 +45,17 @@ class Unread:
         else:
             self.tell_fact(fact, answer)
 
+    def why_never(self, name: str) -> str | None:
+        """Why no packet that comes here has what a selector reads, so that no match holds, whatever its operator."""
+        hooks = self.draft.chain.hooks
+        if name in OWNERS and hooks and hooks <= WITHOUT_OWNER:
+            return "a packet that is forwarded is of no process"
+        if name in OF_EXITS and hooks - {"output"} and hooks - {"output"} <= WITHOUT:
+            return "on prerouting and input no packet has an output interface"
+        if (name in BY_ROUTE or first_word(name) in BY_ROUTE) and hooks == {"prerouting"}:
+            return "on prerouting no route is known yet"
+        return None
+
     def fact_of(self, name: str) -> Fact | None:
         """What is known of a selector in this ruleset."""
         return None if name == "ct zone" and self.draft.fitter.sets_zones else KNOWN.get(name)
@@ -53,19 +68,24 @@ class Unread:
         if not answer:
             self.draft.die()
 
+    def is_certain(self, name: str, operator: str, right: Expression) -> bool:
+        """Whether a match of a field of known width holds for all of its values, or for none, and is decided so."""
+        if name not in FIELD_WIDTHS or isinstance(right, Named):
+            return False
+        part = share(operator, right, str(FIELD_WIDTHS[name]))
+        if part == 1:
+            self.draft.tell("same", "left out, as it always holds", "for each value of the field")
+        elif part == 0:
+            self.draft.tell("same", self.draft.never(), "for no value of the field")
+            self.draft.die()
+        return part in (0, 1)
+
     def match_unknown(self, name: str, operator: str, right: Expression) -> None:
         """Of a field of known width the numbers for which the match holds tell which answer is the usual one."""
         assumption = assumption_of(name)
         usual = self.usual_answer(assumption, operator)
         if name in FIELD_WIDTHS and not isinstance(right, Named):
-            part = share(operator, right, str(FIELD_WIDTHS[name]))
-            if part in (0, 1):
-                to = "left out, as it always holds" if part else self.draft.never()
-                self.draft.tell("same", to, "for each value of the field" if part else "for no value of the field")
-                if not part:
-                    self.draft.die()
-                return
-            usual = part > 0.5
+            usual = share(operator, right, str(FIELD_WIDTHS[name])) > 0.5
         elif name.startswith(OPTIONS):
             usual = right in YES_NO and (right == MISSING) != (operator in ("!=", "!"))
         self.guess_match(assumption, usual, self.known(name, None))
@@ -83,6 +103,18 @@ class Unread:
         """The protocol that the match asks for first, or the connection that it reads."""
         if name not in KNOWN or not KNOWN[name].needs:
             self.draft.keep_tests(Selector(name))
+
+    def keep_key(self, *operands: Expression | None) -> None:
+        """A key that is read without a match: the rule ends where the packet hasn't what it reads."""
+        self.draft.keep_tests(*operands)
+        for name in dict.fromkeys(it.name for it in selectors_in(operands)):
+            why_never = self.why_never(name)
+            if why_never:
+                self.draft.tell("same", self.draft.never(), why_never)
+                self.draft.die()
+                return
+            if name.startswith(MAY_LACK):
+                self.guess_match(assumption_of(name), False, f"packets have no {name}")
 
     # what other rules write
 
@@ -111,12 +143,8 @@ class Unread:
         way = self.draft.way(assumption)
         is_usual = way == ASSUMPTIONS[assumption].ways[0]
         answer = usual if is_usual else not usual if other is None else other
-        why = (
-            f"assumed: {fact}; --assume {assumption}={ASSUMPTIONS[assumption].ways[1]} takes the other"
-            if fact and is_usual
-            else None
-        )
-        self.draft.guess(assumption, way, "always" if answer else self.draft.never(), why=why)
+        to = "always" if answer else self.draft.never()
+        self.draft.guess(assumption, way, to, why=reason(assumption, way, fact))
         if not answer:
             self.draft.put(self.draft.never())  # what follows is told all the same
 
@@ -135,6 +163,12 @@ class Unread:
         fit()
         if not is_not:
             self.draft.lines += [[*line, self.draft.piece("ct state related")] for line in before]
+
+
+def reason(assumption: str, way: str, fact: str | None) -> str | None:
+    """What is told of a guess where more is known than its assumption alone."""
+    usual, other = ASSUMPTIONS[assumption].ways
+    return f"assumed: {fact}; --assume {assumption}={other} takes the other" if fact and way == usual else None
 
 
 def is_absence(name: str, operator: str, right: Expression) -> bool:

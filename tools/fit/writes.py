@@ -68,6 +68,8 @@ class Writes:
             self.draft.keep_tests(left)
         if isinstance(operand, Lookup):
             self.keep_lookup(operand)
+        elif isinstance(operand, Selector):
+            self.matches.unread.keep_key(operand)
 
     def find_objects(self, kind: str, operand: Expression) -> None:
         """Missing where the helper, timeout or expectation that is set isn't defined in the table."""
@@ -95,7 +97,7 @@ class Writes:
         if self.draft.is_last():
             return
         if isinstance(lookup.key, Drawn):
-            self.draft.keep_tests(lookup.key.over)
+            self.matches.unread.keep_key(lookup.key.over)
             return
         if not isinstance(lookup.key, Selector) or lookup.key.name not in TYPES:
             raise NotFitted("a value by a map of what nftrun doesn't read, with statements behind it")
@@ -112,7 +114,7 @@ class Writes:
             self.draft.put_spelled(f"{name} set {operand.name}", [operand.name], "mark")
         elif isinstance(operand, Drawn):
             number, way = self.matches.number_drawn(operand)
-            self.draft.keep_tests(operand.over)
+            self.matches.unread.keep_key(operand.over)
             self.matches.tell_drawn(way, str(number))
             self.draft.put(f"{name} set {number}", "mark")
         elif isinstance(operand, Calculation):

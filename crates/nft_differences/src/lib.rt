@@ -5,11 +5,13 @@
 #![tactic(auto)]
 
 mod chains;
+mod exits;
 mod findings;
 mod intervals;
 mod layout;
 mod names;
 mod outline;
+mod ports;
 mod protocols;
 mod rules;
 mod sets;

@@ -4,9 +4,9 @@ use nft_tree::{Family, Selector, Value};
 
 const ICMP: u32 = 1;
 
-const TCP: u32 = 6;
+pub(crate) const TCP: u32 = 6;
 
-const UDP: u32 = 17;
+pub(crate) const UDP: u32 = 17;
 
 /// The protocols that nft 1.0.6 knows behind an IPv4 header: ICMP, IGMP, TCP, UDP, DCCP, ESP, AH,
 /// ICMPv6, IPComp, SCTP, UDP-Lite.
@@ -149,7 +149,7 @@ impl Protocols {
 }
 
 /// The number of a literal of a protocol or a family.
-fn number_of(selector: Selector, value: &Value) -> Option<u32> {
+pub(crate) fn number_of(selector: Selector, value: &Value) -> Option<u32> {
     match value {
         Value::Number(number) => u32::try_from(*number).ok(),
         Value::Word(word) => selector.value_type()?.number_of(word),

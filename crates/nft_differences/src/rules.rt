@@ -1,27 +1,34 @@
 //! What nft(8) refuses of rules, or means otherwise by them.
 use crate::chains::is_early;
+use crate::exits::{excludes_exits, has_exit};
 use crate::findings::Findings;
 use crate::names::is_reserved_interface;
 use crate::outline::{Outline, PartKind, Range};
+use crate::ports::{is_of_ports, leave_ports, reads_any_port};
 use crate::protocols::Protocols;
 use crate::sets::{List, is_interface, is_long_wildcard};
 use crate::tokens::Tokens;
 use crate::warning::Warning;
 use nft_tree::{
-    BitField, BitTest, Chain, DestinationTarget, Element, Family, Key, MapLookup, MapRef, Match,
-    Nat, Operand, Operator, Rule, Ruleset, Selector, SetRef, SourceTarget, Stmt, Table, Value,
+    BitField, BitTest, Chain, DestinationTarget, Element, Key, MapLookup, MapRef, Match, Nat,
+    Operand, Operator, Rule, Ruleset, Selector, SetRef, SourceTarget, Stmt, Table, Value,
     ValueRange,
 };
 
 /// A rule that is read from left to right, beside its tokens.
 #[derive(Clone, Copy)]
 struct Walk<'a, 't> {
+    table: &'a Table,
     tokens: &'a Tokens<'t>,
     part: Range,
     /// The token up to which it is read.
     at: usize,
     protocols: Protocols,
+    /// Whether it has named TCP or UDP, so that all packets have ports.
+    is_ported: bool,
     is_early: bool,
+    /// Whether its packets have an output interface.
+    has_exit: bool,
 }
 
 /// Adds the warnings about rules.
@@ -41,31 +48,34 @@ fn judge_table(
 ) {
     for item in &table.items {
         if let Some(chain) = item.chain() {
-            judge_chain(table.family, chain, tokens, outline, findings);
+            judge_chain(table, chain, tokens, outline, findings);
         }
     }
 }
 
-/// Adds the warnings about the rules of a chain in a table of a family.
+/// Adds the warnings about the rules of a table's chain.
 fn judge_chain(
-    family: Family,
+    table: &Table,
     chain: &Chain,
     tokens: &Tokens<'_>,
     outline: &mut Outline,
     findings: &mut Findings<'_>,
 ) {
-    let is_early = match &chain.head {
-        Some(head) => is_early(head),
-        None => false,
+    let (is_early, has_exit) = match &chain.head {
+        Some(head) => (is_early(head), has_exit(head)),
+        None => (false, true),
     };
     for rule in &chain.rules {
         let part = outline.next_or_empty(tokens, PartKind::Rule);
         let mut walk = Walk {
+            table,
             tokens,
             part,
             at: part.start,
-            protocols: Protocols::new(family),
+            protocols: Protocols::new(table.family),
+            is_ported: false,
             is_early,
+            has_exit,
         };
         walk.judge(rule, findings);
     }
@@ -73,7 +83,14 @@ fn judge_chain(
 
 impl Walk<'_, '_> {
     fn judge(&mut self, rule: &Rule, findings: &mut Findings<'_>) {
-        for statement in &rule.statements {
+        let mut follows_match = false;
+        for (number, statement) in rule.statements.iter().enumerate() {
+            let is_match = matches!(statement, Stmt::Match(_));
+            if is_match && !follows_match {
+                let run = rule.statements.get(number..).unwrap_or(&[]);
+                self.is_ported = self.is_ported || leave_ports(self.table, run);
+            }
+            follows_match = is_match;
             self.judge_statement(statement, findings);
         }
     }
@@ -101,6 +118,10 @@ impl Walk<'_, '_> {
         if let Some(warning) = self.protocols.read(selector) {
             findings.add(self.tokens, place, warning);
         }
+        if reads_any_port(selector) && !self.is_ported {
+            findings.add(self.tokens, place, Warning::PortsOfAny);
+        }
+        self.is_ported = self.is_ported || is_of_ports(selector);
         if self.is_early && reads_connection(selector) {
             findings.add(self.tokens, place, Warning::StateInEarlyChain);
         }
@@ -124,6 +145,9 @@ impl Walk<'_, '_> {
     }
 
     fn judge_match(&mut self, test: &Match, findings: &mut Findings<'_>) {
+        if !self.has_exit && excludes_exits(test) {
+            findings.add(self.tokens, self.place_of_exit(), Warning::NoExit);
+        }
         match test {
             Match::Compare(selector, operator, range) => {
                 self.read(*selector, findings);
@@ -142,6 +166,16 @@ impl Walk<'_, '_> {
                 self.judge_mask(findings);
             }
         }
+    }
+
+    /// The next token that reads the output interface.
+    fn place_of_exit(&self) -> usize {
+        for index in self.at..self.part.end {
+            if matches!(self.tokens.bytes(index), b"oif" | b"oifname") {
+                return index;
+            }
+        }
+        self.at
     }
 
     fn judge_range(
@@ -298,9 +332,25 @@ impl Walk<'_, '_> {
         }
     }
 
+    /// The next token that is the word of a statement of NAT. `ct status` has words like these, but
+    /// no `to` behind them.
+    fn place_of_nat(&self, word: &[u8]) -> usize {
+        for index in self.at..self.part.end {
+            if self.tokens.is(index, word) && self.has_to(index.saturating_add(1)) {
+                return index;
+            }
+        }
+        self.part.place_of(self.tokens, self.at, word)
+    }
+
+    /// Whether there is `to` or `ip to`.
+    fn has_to(&self, index: usize) -> bool {
+        let is_named = self.tokens.is(index, b"ip");
+        self.tokens.is(index, b"to") || (is_named && self.tokens.is(index.saturating_add(1), b"to"))
+    }
+
     fn judge_nat(&mut self, nat: &Nat, findings: &mut Findings<'_>) {
-        let word = word_of(nat);
-        let place = self.part.place_of(self.tokens, self.at, word);
+        let place = self.place_of_nat(word_of(nat));
         let next = place.saturating_add(1);
         self.at = next;
         if matches!(nat, Nat::Source(_) | Nat::Destination(_)) {

@@ -43,6 +43,8 @@ pub(crate) enum Warning {
     StateInEarlyChain,
     WholeStatus,
     SingleBit,
+    PortsOfAny,
+    NoExit,
 }
 
 impl Warning {
@@ -125,6 +127,11 @@ impl Warning {
             }
             Warning::SingleBit =>
                 "nft takes a set of one element for a test of its bit; here the whole value is compared",
+            Warning::PortsOfAny =>
+                "Linux reads the bytes of any protocol as ports; nftrun those of TCP and UDP",
+            Warning::NoExit => {
+                "on prerouting and input Linux reads an empty name, so this holds; here it doesn't"
+            }
             _ => "nft means something else",
         }
     }
