@@ -1,4 +1,4 @@
-"""The capture of a busy router on all interfaces, whose answer is known by construction; by struct alone, as capture.py.
+"""The capture of a busy router on all interfaces, whose answer is known by construction; by struct, as capture.py.
 
   python3 tests/tools/made/busy.py >in.pcap
 

@@ -4,13 +4,25 @@ from __future__ import annotations
 from dataclasses import dataclass
 from typing import Iterator, Mapping, Sequence
 
-from ..scanner import Source, Token, scan
+from toolbox.lexer import Source, Token
+
+from ..facts import TYPES
+from ..scanner import Refused, scan
 from ..sets import colon, selector_types
 from ..statements import RuleReader
-from ..tree import Joined, Lookup, Match, NotFitted, Selector, Setting, Statement, Translation, VerdictMap, What
-from ..tree import inner_parts
-from ..facts import TYPES
-from ..scanner import Refused
+from ..tree import (
+    Joined,
+    Lookup,
+    Match,
+    NotFitted,
+    Selector,
+    Setting,
+    Statement,
+    Translation,
+    VerdictMap,
+    What,
+    inner_parts,
+)
 
 INTERFACES = ("ifname", "iface_index")
 
