@@ -168,6 +168,10 @@ class Counted(unittest.TestCase):
         self.assertTrue(count.is_over(at(3, key=tcp(1))))  # stops at its own, and the third is still there
         self.assertFalse(count.is_over(at(4, key=tcp(1), is_assured=True)))
         self.assertFalse(count.is_over(at(242, key=tcp(4))))  # both are gone behind 240 s
+        # in one moment nothing is removed, and what isn't confirmed is added again
+        self.assertFalse(count.is_over(at(242, key=tcp(4))))
+        self.assertTrue(count.is_over(at(242, key=tcp(4))))
+        self.assertFalse(count.is_over(at(243, key=tcp(4))))
 
     def test_closed(self) -> None:
         connections = known.Connections(LIMITS)

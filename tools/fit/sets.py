@@ -112,6 +112,7 @@ class Sets:
     def lines(self, table: Table, found: Set) -> list[str]:
         rates = self.fitter.rates
         if rates is not None and rates.replays(table, found.name):
+            self.fitter.changes.tell(found.token, "outcome", f"set {found.name}", "left out", "what it has is replayed")
             return []
         try:
             return self.lines_of(table, found)

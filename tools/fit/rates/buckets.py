@@ -70,23 +70,35 @@ class CountedConnections:
 
     A packet has those removed whose connection is gone (or never came to be, since its packet was dropped) or closed.
     One of an assured connection adds nothing. Any other stops at its own where that is there, and else adds it: so the
-    tuple of a packet that was over stands in the list until the next new connection comes.
+    tuple of a packet that was over stands in the list until the next new connection comes. Nothing is removed twice in
+    one tick of the kernel; here that is in one moment, as where a packet comes to the list again.
     """
 
     def __init__(self, terms: Count, connections: Connections) -> None:
         self.terms, self.connections = terms, connections
-        self.tuples: dict[bytes, None] = {}
+        self.tuples: list[bytes] = []
+        self.cleared: int | None = None  # the moment of the last removal
 
     def is_over(self, arrival: Arrival) -> bool:
-        for key in list(self.tuples):
+        has_own = arrival.is_assured or arrival.key is None
+        if arrival.moment != self.cleared:
+            has_own = self.clear(arrival) or has_own
+        if arrival.key is not None and not has_own:
+            self.tuples.append(arrival.key)
+        return len(self.tuples) > self.terms.most
+
+    def clear(self, arrival: Arrival) -> bool:
+        """Removes what is over, up to the packet's own tuple; whether that was found."""
+        kept: list[bytes] = []
+        for place, key in enumerate(self.tuples):
             state = self.connections.state_of(key, arrival.moment)
             if key == arrival.key and not arrival.is_assured and state is not State.GONE:
-                break
-            if state is not State.LIVE:
-                del self.tuples[key]
-        if arrival.key is not None and not arrival.is_assured:
-            self.tuples[arrival.key] = None
-        return len(self.tuples) > self.terms.most
+                self.tuples = kept + self.tuples[place:]
+                return True
+            if state is State.LIVE:
+                kept.append(key)
+        self.tuples, self.cleared = kept, arrival.moment
+        return False
 
 
 def bucket_of(terms: Terms, connections: Connections) -> Bucket:

@@ -61,7 +61,7 @@ class DynamicSet:
     def __init__(self, terms: SetTerms, connections: Connections, begin: int) -> None:
         self.terms, self.connections = terms, connections
         self.held: dict[Key, Held] = {}
-        self.was_full = False  # whether the size decided anything
+        self.was_full, self.deleted = False, 0  # whether the size may have decided anything
         for it in terms.listed:
             ends = None if it.expires is None else begin + it.expires
             self.held[it.key] = Held(ends, self.made(it.bounds or terms.bounds))
@@ -94,13 +94,13 @@ class DynamicSet:
         return found.passes(arrival)
 
     def is_full(self, moment: int) -> bool:
-        """Linux counts what has run out as well, until it is collected; here it is collected at once."""
+        """Linux counts what ran out or was deleted as well, until it is collected; here it is collected at once."""
+        self.was_full |= len(self.held) + self.deleted >= self.terms.size
         if len(self.held) < self.terms.size:
             return False
-        self.was_full = True
         for key in [key for key, it in self.held.items() if not it.is_there(moment)]:
             del self.held[key]
         return len(self.held) >= self.terms.size
 
     def delete(self, key: Key) -> None:
-        self.held.pop(key, None)
+        self.deleted += self.held.pop(key, None) is not None

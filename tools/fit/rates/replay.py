@@ -79,7 +79,7 @@ class Kept:
     def notes(self) -> Iterator[str]:
         for name, it in self.sets.items():
             if it.was_full:
-                yield f"{name.name} was full: Linux counts elements that ran out until it collects them"
+                yield f"{name.name} may be full: Linux counts what ran out or was deleted until it collects it"
 
 
 @dataclass(frozen=True)

@@ -29,6 +29,7 @@ if TYPE_CHECKING:
     from ..draft import Draft
     from ..fitter import Fitter
 
+TIMED = {"timeout", "expires", "limit", "quota", "ct"}
 REPLAYED = "replayed by the capture's clock, as told below"
 OPERATORS = {"": False, "==": False, "!=": True, "!": True}  # whether they want what isn't in the set
 
@@ -131,20 +132,23 @@ class Subjects:
         self.has_untracked = fitter.has_untracked
         self.has_translation = any(
             isinstance(it.what, Translation) for _, _, rule in fitter.rules() for it in rule.statements)
-        for key in sorted(fitter.added_to):
-            name = SetName(*key)
-            table = next(it for it in fitter.tables.values() if (it.family, it.name) == key[:2])
-            try:
-                if name not in self.without:
-                    self.sets[name] = self.set_terms(fitter, table, name)
-            except NotFitted:
-                continue  # it is guessed, and told so
+        for table in fitter.tables.values():
+            added = {name for family, of, name in fitter.added_to if (family, of) == (table.family, table.name)}
+            for it in sorted(added | {it.name for it in table.sets.values() if changes_by_itself(it)}):
+                name = SetName(table.family, table.name, it)
+                try:
+                    if name not in self.without:
+                        self.sets[name] = self.set_terms(fitter, table, name)
+                except NotFitted:
+                    continue  # it is guessed, and told so
 
     def set_terms(self, fitter: Fitter, table: Table, name: SetName) -> SetTerms:
         """What is known of a set; NotFitted where it, or a rule that names it, can't be replayed."""
         naming = [(chain, it) for other, chain, rule in fitter.rules() if other is table
                   for it in self.naming(rule, name)]
         keys = [self.key_asked(chain, it, name) for chain, it in naming]
+        if not keys:
+            raise NotFitted("a set that no rule names")
         found = table.sets.get(name.name)
         if found is None:
             return SetTerms(meter_size(naming[0][1]), None, ())
@@ -288,6 +292,11 @@ def change_asked(it: Statement) -> Asked:
     """What stands behind the key in what is added: within the braces, or in the older spelling before the name."""
     words = [one.text for one in it.tokens]
     return asked_of(words[words.index("{"):] if "{" in words else words[2:words.index("@")])
+
+
+def changes_by_itself(found: Set) -> bool:
+    """Whether what a set lists runs out, or is bounded."""
+    return bool(found.elements and (found.words or any(set(it.extras) & TIMED for it in found.elements)))
 
 
 def meter_size(it: Statement) -> int:
