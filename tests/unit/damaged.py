@@ -130,7 +130,8 @@ def sources() -> Sources:
                b'# none\n{"list": "opened", "old": {"verdict": "drop"}, "new": null}\n')
     head = b'{"rule-map": 1, "sha256": "00", "rules": "r.nft"}\n{"chain": "ip t c", "rule": 1, "was-chain": "ip t c", '
     alone = {
-        RULES: rulesets, OTHER_RULES: rulesets, BOX: contents(found("examples/*/box.txt", "tests/tools/**/*box.txt")),
+        RULES: rulesets, OTHER_RULES: rulesets,
+        BOX: contents(found("examples/*/box.txt", "tests/rows/box.txt", "tests/tools/**/*box.txt")),
         REPORT: contents(found("examples/*/report.txt")), LISTING: contents(found("tests/tools/recorded/counted.nft")),
         PACKETS: contents(found("tests/tools/**/packets.txt")), ADDRESSES: contents(found("examples/box/*.addr.txt")),
         ROUTES: contents(found("examples/box/*.route.txt")), ALLOWED: [allowed],

@@ -1,21 +1,16 @@
-"""Packets with nothing special about them, and captures of them: what generators and measurements of bench/ share.
+"""Packets with nothing special about them, and captures of them, by numbers: what generators and measurements share.
 
-What judges runs by itself (tests/random/reading.py, and rows.py below it; tests/limits/sizes.py) doesn't stand on this.
+What judges runs by itself (tests/random/reading.py, and tests/shared/rows.py below it; tests/limits/sizes.py) doesn't
+stand on this.
 """
 from __future__ import annotations
 
 import struct
 
-RAW_IP = 101
+from toolbox.captures import RAW_IP
+from toolbox.packets import checksum
+
 USUAL = struct.Struct(">BBHHHBBHII")  # a header of IPv4 without options (RFC 791, section 3.1)
-
-
-def checksum(header: bytes) -> int:
-    """The checksum over a header of 20 bytes whose own is 0 (RFC 1071)."""
-    total: int = sum(struct.unpack(">10H", header))
-    while total > 0xFFFF:
-        total = (total & 0xFFFF) + (total >> 16)
-    return 0xFFFF - total
 
 
 def ip_header(
