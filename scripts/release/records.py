@@ -2,7 +2,7 @@
 
     version 1.0.0
     commit 0123.. (or: 0123.. with changes)
-    kit rattle-kit-13f logic dac8208d650f15bf
+    kit rattle-kit-13b logic dac8208d650f15bf
     proofs checked
     sha256 HEX
 

@@ -1,6 +1,5 @@
 -- What contracts see of the code's tokens: their terminals and bytes, without where these are in memory (own).
 use Rattle.std.specs.Prelude.{ℕ, ◌-◌, List, drop, length, map, take}
-use Rattle.nft_lexer.specs.declared.token.Punctuator.{Punctuator}
 use Rattle.nft_lexer.specs.declared.token.TokenKind.{TokenKind}
 use Rattle.nft_lexer.specs.declared.token.TokenKind.TheVariants as token_kinds
 use Rattle.nft_lexer.specs.declared.token.Token.{Token}

@@ -1,7 +1,7 @@
 -- The abstract syntax tree of a ruleset, without where its vectors are in memory: what contracts compare. A
 -- type that holds no vector stands for itself. The forms are those of nft(8): "Tables", "Chains", "Rules",
 -- "Sets", "Maps", "Elements", "Expressions" and "Statements".
-use Rattle.std.specs.Prelude.{ℕ, Bool, List, map, Option}
+use Rattle.std.specs.Prelude.{ℕ, Bool, List, Option}
 use Rattle.nft_tree.specs.declared.ruleset.Family.{Family}
 use Rattle.nft_tree.specs.declared.chain.ChainKind.{ChainKind}
 use Rattle.nft_tree.specs.declared.chain.Hook.{Hook}
