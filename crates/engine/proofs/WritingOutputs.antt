@@ -10,7 +10,6 @@ use Rattle.engine.proofs.Histories.{captured_more}
 use Rattle.std.proofs.lemmas.Option.{IfSome_then}
 use Rattle.pcap_io.specs.Buffering.{AppendsBuffered, SinkState}
 use Rattle.report.specs.Representing.{AppendsRest, AppendsRestPrefix, IsReportOf, ReportState, note_line}
-use Rattle.history.specs.declared.outcome.Outcome.{Outcome}
 use Rattle.history.specs.declared.entry.Entry as lent
 
 -- ---- the outputs of a history
@@ -129,10 +128,9 @@ pub at_record : (last : Option Recorded) (taken : Recorded) (P : Recorded → Ty
     → IfSome last P
 at_record last taken P e h = let Q : Option Recorded → Type 0 = λ o. IfSome o P in subst Q e h
 
--- what an engine's step promises
-abbrev pub Stepped : Setup → List Entry → Recorded → EngineState → Outcome → Type 0
-Stepped setup history taken engine outcome = (e : Entry) × Next setup history taken e × Represents engine (e ∷ history)
-    × (outcome ≡ e.outcome)
+-- what an engine promises of a processed record
+abbrev pub Stepped : Setup → List Entry → Recorded → EngineState → Type 0
+Stepped setup history taken engine = (e : Entry) × Next setup history taken e × Represents engine (e ∷ history)
 
 -- what a report's note promises
 abbrev pub Noted : ReportState → ReportState → lent.Entry → Type 0
@@ -276,8 +274,8 @@ module _ {replay : Replay} {start : ReplayStart} {history : List Entry} {w r : O
 
     -- ---- an entry for it
 
-    module _ {taken : Recorded} {engine : EngineState} {outcome : Outcome}
-        (t : Stepped replay.engine.setup history taken engine outcome)
+    module _ {taken : Recorded} {engine : EngineState}
+        (t : Stepped replay.engine.setup history taken engine)
       where
         -- the engine lends the packet that the entry sends
         sent_by : (xs : List Sent) → xs ≡ sends_of engine.newest

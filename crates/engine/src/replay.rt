@@ -22,7 +22,7 @@ use pcap_io::{Capture, CaptureError, CaptureFault, Counted, DeviceFailed, Sink, 
 use report::{MOST_NOTES, Report};
 use std::alloc::Global;
 use std::io::{Read, Write};
-use stepping::{Engine, one_entry};
+use stepping::{Engine, Processed, one_entry};
 
 /// How many notes may be pending before they are written.
 const MOST_PENDING: usize = 4096;
@@ -257,19 +257,11 @@ impl Replay {
         let Ok(()) = self.numbers.reserve() else {
             return Ok(false);
         };
-        let Some(record) = self.records.record() else {
-            unreachable!()
-        };
-        let Ok(_) = self.engine.step(&record) else {
-            unreachable!()
-        };
-        let Some(entry) = self.engine.entry() else {
-            unreachable!()
-        };
-        let Ok(()) = self.numbers.note(&entry) else {
-            unreachable!()
-        };
-        if let Some(leaving) = self.engine.leaving() {
+        let record = self.records.record().unwrap();
+        self.engine.process(&record);
+        let Processed { entry, leaving } = self.engine.newest();
+        self.numbers.note(&entry).unwrap();
+        if let Some(leaving) = leaving {
             self.sink.put(sent, &leaving)?;
         }
         Ok(true)

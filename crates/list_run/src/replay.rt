@@ -8,7 +8,7 @@ use report::Report;
 use rule_check::{Checked, check};
 use std::alloc::Global;
 use std::io::{Read, Write};
-use stepping::Engine;
+use stepping::{Engine, Processed};
 
 /// The most records of a capture.
 const MOST_RECORDS: u64 = 4_294_967_296;
@@ -101,10 +101,9 @@ impl Replay {
             return Err(RunFault::Capture(CaptureFault::TooMany));
         }
         self.engine.step(&record)?;
-        if let Some(entry) = self.engine.entry() {
-            self.numbers.note(&entry)?;
-        }
-        if let Some(leaving) = self.engine.leaving() {
+        let Processed { entry, leaving } = self.engine.newest();
+        self.numbers.note(&entry)?;
+        if let Some(leaving) = leaving {
             self.sink.put(sent, &leaving)?;
         }
         Ok(())

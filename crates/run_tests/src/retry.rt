@@ -1,6 +1,6 @@
 //! A record whose step was refused memory is stepped again. Nothing is refused here: `test-refuse`
 //! runs this test over and over, and refuses each request of its steps in turn.
-ghost use Rattle.std.specs.Prelude.{◌<◌};
+ghost use Rattle.std.specs.Prelude.{◌≡◌, ◌<◌, IsSome, IsTrue, false};
 
 use crate::support::{AT_1_5, BOX, HEADER, PLAIN, ROUTER, bytes, no_failures, run_over, started};
 use aged_tracker::AgedTracker;
@@ -12,7 +12,7 @@ use report::Report;
 use std::fs;
 use std::process::Abort;
 use std::rt::Files;
-use stepping::Engine;
+use stepping::{Engine, Processed};
 
 /// A run: rules, trace, and capture.
 #[derive(Clone, Copy)]
@@ -169,6 +169,8 @@ fn try_step<R: Abort + AllocGlobal + Files>(
     record: &Record,
 ) -> bool
     requires few { engine.old.records < 4294967296 }
+    ensures taken { IsTrue result → IsSome engine.new.newest }
+    ensures kept { result ≡ false → engine.new ≡ engine.old }
 {
     open_file(rt);
     let is_taken = engine.step(record).is_ok();
@@ -198,15 +200,14 @@ fn step_again<R: Abort + AllocGlobal + Files>(
     record: &Record,
 )
     requires few { engine.old.records < 4294967296 }
+    ensures { IsSome engine.new.newest }
 {
     let before = state_of(rt, engine);
     if try_step(rt, engine, record) {
         return;
     }
     has_not_changed(rt, engine, &before);
-    if engine.records() < MOST_RECORDS {
-        engine.step(record).expect(rt, "memory");
-    }
+    engine.step(record).expect(rt, "memory");
 }
 
 /// The outputs of a run.
@@ -258,10 +259,9 @@ impl Replayed {
     fn take<R: Abort + AllocGlobal + Files>(&mut self, rt: &R, record: &Record) {
         if self.engine.records() < MOST_RECORDS && self.outputs.report.records() < MOST_RECORDS {
             step_again(rt, &mut self.engine, record);
-            if let Some(entry) = self.engine.entry() {
-                self.outputs.report.note(&entry).expect(rt, "room");
-            }
-            if let Some(leaving) = self.engine.leaving() {
+            let Processed { entry, leaving } = self.engine.newest();
+            self.outputs.report.note(&entry).expect(rt, "room");
+            if let Some(leaving) = leaving {
                 let put = self.outputs.sink.put(&mut self.outputs.sent, &leaving);
                 put.expect(rt, "a write");
             }

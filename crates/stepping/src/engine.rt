@@ -1,5 +1,5 @@
 //! The engine: a box that processes one record at a time.
-ghost use Rattle.std.specs.Prelude.{◌≡◌, ◌<◌, ◌≤◌, ◌+◌, ℕ, [], ◌∷◌, List, length, map, true, false, IsOk, IsTrue, IfOk, IfSome, OnErr, OnOk};
+ghost use Rattle.std.specs.Prelude.{◌≡◌, ◌<◌, ◌≤◌, ◌+◌, ℕ, [], ◌∷◌, List, length, map, true, false, IsOk, IsSome, IsTrue, IfOk, IfSome, OnErr, OnOk, Some};
 ghost use Rattle.conntrack.specs.ConntrackEntry.{connection_of};
 ghost use Rattle.pcap_io.specs.Sll2.{IsSent, sent};
 ghost use Rattle.rule_check.specs.WellFormed.{WellFormed};
@@ -45,6 +45,15 @@ pub struct Engine<T: Tracker> {
     packet: PacketBuffer,
     /// All that the next record may need is reserved.
     ready: bool,
+}
+
+/// What a record came to.
+#[derive(Clone, Copy)]
+pub struct Processed<'a> {
+    /// Its entry.
+    pub entry: history::Entry<'a>,
+    /// The packet that it forwarded, with its time and output interface; `None` where there is none.
+    pub leaving: Option<Leaving<'a>>,
 }
 
 // Written out, so that dropping one is a call.
@@ -186,12 +195,36 @@ impl<T: Tracker> Engine<T> {
         // What is reserved lasts until a connection begins.
         ensures lasts { OnOk result (IfSome self.new.newest (λ newest.
             newest.begun ≡ false → IsTrue self.new.ready)) }
+        ensures newest { OnOk result (IsSome self.new.newest) }
+    {
+        // All allocation first: nothing after it can fail.
+        self.reserve()?;
+        self.process(record);
+        Ok(self.newest().entry.outcome)
+    }
+
+    /// Processes one record with what `reserve` reserved. `newest` then tells what it came to.
+    pub fn process(&mut self, record: &Record)
+        requires few { self.old.records < 4294967296 }
+        requires ready { IsTrue self.old.ready }
+        // An engine that represents a history then represents it with the record's entry.
+        ensures represents { (history : List Entry) → Represents self.old history
+            → (e : Entry) × Next self.old.setup history (recorded_of record.now) e
+            × Represents self.new (e ∷ history) }
+        ensures newest { IsSome self.new.newest }
+        ensures setup { self.new.setup ≡ self.old.setup }
+        ensures records { self.new.records ≡ self.old.records + 1 }
+        // The record evaluates no more statements than the ruleset's cost.
+        ensures ticks { (cost : TableTree → Caller → ℕ) → AreAllCosts self.old.setup.rules cost
+            → self.new.ticks ≤ self.old.ticks + ruleset_cost cost self.old.setup.rules }
+        ensures no_fewer { self.old.ticks ≤ self.new.ticks }
+        // What is reserved lasts until a connection begins.
+        ensures lasts { IfSome self.new.newest (λ newest.
+            newest.begun ≡ false → IsTrue self.new.ready) }
     {
         // The connections held are known but for their ids.
         extends_history();
         none_later();
-        // All allocation first: nothing after it can fail.
-        self.reserve()?;
         self.packet.clear();
         self.events.clear();
         let now = self.latest.max(record.moment);
@@ -210,30 +243,38 @@ impl<T: Tracker> Engine<T> {
         self.ended = Some(ended);
         // Only a new connection takes what is reserved.
         self.ready = !ended.begun;
-        Ok(ended.outcome)
     }
 
-    /// The packet that the last record forwarded, with its time and output interface; `None` where
-    /// there is none.
-    pub fn leaving(&self) -> Option<Leaving<'_>>
-        ensures sends { sent_packets result ≡ sends_of self.now.newest }
-        ensures fits { IfSome result (λ leaving. IsSent (sent leaving)) }
+    /// What the last record came to.
+    pub fn newest(&self) -> Processed<'_>
+        requires { IsSome self.now.newest }
+        // Its entry is the newest of each history that the engine represents.
+        ensures newest { (history : List Entry) → Represents self.now history
+            → IsNewest (Some result.entry) history }
+        // A record has no more events than a ruleset may cost.
+        ensures few { length result.entry.events.now ≤ 65536 }
+        ensures sends { sent_packets result.leaving ≡ sends_of self.now.newest }
+        ensures fits { IfSome result.leaving (λ leaving. IsSent (sent leaving)) }
     {
-        let Outcome::Passed(interface) = self.ended?.outcome else {
-            return None;
+        let ended = self.ended.unwrap();
+        let leaving = match ended.outcome {
+            Outcome::Passed(interface) => Some(Leaving {
+                moment: self.latest,
+                interface,
+                packet: self.packet.as_slice(),
+            }),
+            Outcome::Local | Outcome::Dropped(_) => None,
         };
-        Some(Leaving {
-            moment: self.latest,
-            interface,
-            packet: self.packet.as_slice(),
-        })
-    }
-
-    /// The packet that the last record forwarded; empty where there is none.
-    pub fn packet(&self) -> &[u8]
-        ensures { result.now ≡ packet_of self.now.newest }
-    {
-        self.packet.as_slice()
+        Processed {
+            entry: history::Entry {
+                number: self.records,
+                length: ended.length,
+                events: self.events.list(),
+                outcome: ended.outcome,
+                begun: ended.begun,
+            },
+            leaving,
+        }
     }
 
     /// The entry of the last record; `None` before the first.
@@ -244,14 +285,17 @@ impl<T: Tracker> Engine<T> {
         // A record has no more events than a ruleset may cost.
         ensures few { IfSome result (λ entry. length entry.events.now ≤ 65536) }
     {
-        let ended = self.ended?;
-        Some(history::Entry {
-            number: self.records,
-            length: ended.length,
-            events: self.events.list(),
-            outcome: ended.outcome,
-            begun: ended.begun,
-        })
+        if self.ended.is_none() {
+            return None;
+        }
+        Some(self.newest().entry)
+    }
+
+    /// The packet that the last record forwarded; empty where there is none.
+    pub fn packet(&self) -> &[u8]
+        ensures { result.now ≡ packet_of self.now.newest }
+    {
+        self.packet.as_slice()
     }
 
     /// The number of connections alive at the time of the last record.

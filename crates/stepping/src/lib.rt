@@ -14,6 +14,6 @@ mod process;
 mod setup;
 mod state;
 
-pub use engine::Engine;
+pub use engine::{Engine, Processed};
 pub use laws::one_entry;
 pub use std::alloc::AllocError as Memory;
