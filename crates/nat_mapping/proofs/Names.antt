@@ -1,5 +1,6 @@
 -- Names of other crates and of the definitions, for the proofs.
-unfoldable pub use Rattle.nat_mapping.specs.Mappings.{holders_of, inbound_of, pool_count_of, port_of}
+unfoldable pub use Rattle.nat_mapping.specs.HeldMappings.{holders_of, pool_count_of}
+unfoldable pub use Rattle.nat_mapping.specs.Mappings.{inbound_of, port_of}
 unfoldable pub use Rattle.nat_mapping.specs.steps.Consistent.{held_by}
 unfoldable pub use Rattle.port_pool.specs.Candidates.{candidates}
 unfoldable pub use Rattle.std.specs.List.{IsDistinct}
