@@ -1,5 +1,5 @@
 -- The calls that the program makes on its host, with their results (own).
-use Rattle.std.specs.Prelude.{◌≡◌, ℕ, Bool, List, [], ◌∷◌, Option, Result, Ok, Err, Vec, String, map, string_bytes, ⊤}
+use Rattle.std.specs.Prelude.{◌≡◌, ℕ, Bool, List, [], ◌∷◌, Result, Ok, Err, Vec, String, map, string_bytes, ⊤}
 use Rattle.std.specs.declared.io.Error.{Error}
 use Rattle.std.specs.declared.random_state.RandomState.{RandomState}
 use Rattle.clap.specs.declared.error.kind.ErrorKind.{ErrorKind}
@@ -9,6 +9,8 @@ use Rattle.command_line.specs.declared.tasks.Task.{Task}
 use Rattle.engine.specs.declared.fault.RunFault.{RunFault}
 use Rattle.engine.specs.declared.judging.Counts.{Counts}
 use Rattle.program.specs.declared.identity.FileIdentity.{FileIdentity}
+use Rattle.program.specs.declared.running.RunFiles.{RunFiles}
+use Rattle.program.specs.declared.running.RunInputs.{RunInputs}
 use Rattle.program.specs.declared.status.Status.{Status}
 
 -- a path, or a file's text, as bytes
@@ -32,11 +34,8 @@ pub data Call (Input Output : Type 0) : Type 0 where
   draw_keys : Result RandomState Error → Call Input Output
   -- creates a file or truncates it, and opens it for writing
   create : Text → Result Output Error → Call Input Output
-  -- replays a capture: the keys, the texts of the ruleset and the box file, IN before and after, OUT
-  -- before and after, the report's file before and after (none for standard output), and whether there
-  -- is a trace; whether the capture is torn
-  run : RandomState → Text → Text → Input → Input → Output → Output → Option Output → Option Output → Bool
-      → Result Bool RunFault → Call Input Output
+  -- replays a capture: what the run is given, and its files before and after; whether the capture is torn
+  run : RunInputs → RunFiles Input Output → RunFiles Input Output → Result Bool RunFault → Call Input Output
   -- checks a ruleset's text for a box file's text, and counts its tables, chains and rules
   judge : Text → Text → Result Counts RunFault → Call Input Output
   -- prints the line of an accepted ruleset

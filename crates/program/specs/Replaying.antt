@@ -1,5 +1,5 @@
 -- `nftrun run` (own): its calls in order, and its status.
-use Rattle.std.specs.Prelude.{◌≡◌, ◌++◌, Bool, List, [], ◌∷◌, Option, Some, None, Result, Ok, Err, codes, if◌then◌else◌, ⊤}
+use Rattle.std.specs.Prelude.{◌≡◌, ◌++◌, List, [], ◌∷◌, Option, Some, None, Result, Ok, Err, codes, if◌then◌else◌, ⊤}
 use Rattle.std.specs.IoError.{error_kind}
 use Rattle.std.specs.declared.io.Error.{Error}
 use Rattle.std.specs.declared.io.ErrorKind.{ErrorKind}
@@ -12,6 +12,7 @@ use Rattle.program.specs.Calls.{Call, Text, read, open_input, identify, draw_key
 use Rattle.program.specs.Identity.{is_same_file}
 use Rattle.program.specs.Status.{of_run, of_error}
 use Rattle.program.specs.declared.identity.FileIdentity.{FileIdentity}
+use Rattle.program.specs.declared.running.RunInputs.{RunInputs}
 use Rattle.program.specs.declared.status.Status.{Status}
 use Rattle.program.specs.declared.status.Status.TheVariants.{SameFile, SameReport}
 
@@ -28,14 +29,11 @@ Then {C = C} {A = A} First Next calls status =
     (first : List C) × (answer : Result A Status) × (later : List C)
     × First first answer × (calls ≡ first ++ later) × ProceedsWith answer Next later status
 
--- the run gets the keys that were drawn, the texts of the ruleset and the box file, the files that were
--- opened (for the report too, if it has one), and the flag of the trace; no call follows
-abbrev pub Runs : {I O : Type 0} → Bool → RandomState → Text → Text → I → O → Option O → List (Call I O)
-    → Status → Type 0
-Runs traced keys rules box input output report (run k r b i i' o o' f f' t answer ∷ []) status =
-    (k ≡ keys) × (r ≡ rules) × (b ≡ box) × (i ≡ input) × (o ≡ output) × (f ≡ report) × (t ≡ traced)
-    × (status ≡ of_run answer)
-Runs _ _ _ _ _ _ _ _ _ = ⊥
+-- the run gets the files that were opened (for the report too, if it has one); no call follows
+abbrev pub Runs : {I O : Type 0} → RunInputs → I → O → Option O → List (Call I O) → Status → Type 0
+Runs inputs input output report (run given before after answer ∷ []) status = (given ≡ inputs)
+    × (before ≡ record { input = input; output = output; report = report }) × (status ≡ of_run answer)
+Runs _ _ _ _ _ _ = ⊥
 
 -- a file that doesn't exist yet is no fault; any other error is
 abbrev pub unless_not_found : ErrorKind → Status → Result ⊤ Status
@@ -108,20 +106,24 @@ CreatesReport {I = I} {O = O} (Some file) paths calls answer =
     × CreatesFile file verdict later answer
 
 -- OUT is created, then the report's file, if there is one
-abbrev pub Creates : {I O : Type 0} → ReplayTask → RandomState → Text → Text → I → List (Call I O)
-    → Status → Type 0
-Creates task keys rules box input (create path (Err error) ∷ []) status =
+abbrev pub Creates : {I O : Type 0} → ReplayTask → RunInputs → I → List (Call I O) → Status → Type 0
+Creates task inputs input (create path (Err error) ∷ []) status =
     (path ≡ task.paths.output.now) × (status ≡ of_error error)
-Creates task keys rules box input (create path (Ok output) ∷ calls) status = (path ≡ task.paths.output.now)
-    × Then (CreatesReport (name_of_file task.report) task.paths)
-    (Runs task.trace keys rules box input output) calls status
-Creates _ _ _ _ _ _ _ = ⊥
+Creates task inputs input (create path (Ok output) ∷ calls) status = (path ≡ task.paths.output.now)
+    × Then (CreatesReport (name_of_file task.report) task.paths) (Runs inputs input output) calls status
+Creates _ _ _ _ _ = ⊥
+
+-- the run is given the keys that were drawn, the texts of the ruleset and the box file, and the task's flag
+-- of the trace
+abbrev pub Gives : ReplayTask → RandomState → Text → Text → RunInputs → Type 0
+Gives task keys rules box inputs = (inputs.hasher ≡ keys) × (inputs.rules.now ≡ rules)
+    × (inputs.plant.now ≡ box) × (inputs.trace ≡ task.trace)
 
 -- keys are drawn; where the system gives none, no file is created
 abbrev pub Draws : {I O : Type 0} → ReplayTask → Text → Text → I → List (Call I O) → Status → Type 0
 Draws task rules box input (draw_keys (Err error) ∷ []) status = status ≡ of_error error
-Draws task rules box input (draw_keys (Ok keys) ∷ calls) status =
-    Creates task keys rules box input calls status
+Draws task rules box input (draw_keys (Ok keys) ∷ calls) status = (inputs : RunInputs)
+    × Gives task keys rules box inputs × Creates task inputs input calls status
 Draws _ _ _ _ _ _ = ⊥
 
 -- IN is opened, and the files to write are compared

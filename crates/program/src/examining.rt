@@ -27,7 +27,7 @@ fn try_examine<H: Host>(host: &mut H, texts: &CheckPaths<'_>) -> Result<(), Stat
 {
     let rules = host.read(texts.rules)?;
     let plant = host.read(texts.plant)?;
-    let counts = host.judge(&rules, &plant)?;
+    let counts = host.judge(rules, &plant)?;
     host.print_accepted(counts)?;
     Ok(())
 }

@@ -1,5 +1,6 @@
 //! The operating system's interface, abstracted for proofs.
 use crate::identity::FileIdentity;
+use crate::running::{RunFiles, RunInputs};
 use crate::status::Status;
 use clap::Error;
 use command_line::{CheckPaths, ReplayPaths, Task};
@@ -66,26 +67,18 @@ pub trait Host {
         ensures { happens self.old (create path.now result) self.new };
 
     /// Replays the capture through the ruleset on a box, writes the packets that leave, and prints
-    /// the report to a file, or to standard output where there is none, with a trace if `trace` is
-    /// set. Its hash tables use the keys `hasher`. Returns whether the capture is torn.
+    /// the report. Returns whether the capture is torn.
     fn run(
         &mut self,
-        hasher: RandomState,
-        rules: &[u8],
-        plant: &[u8],
-        input: &mut Self::Input,
-        output: &mut Self::Output,
-        report: &mut Option<Self::Output>,
-        trace: bool,
+        inputs: RunInputs<'_>,
+        files: &mut RunFiles<Self::Input, Self::Output>,
     ) -> Result<bool, RunFault>
-        ensures { happens self.old
-            (run hasher rules.now plant.now input.old input.new output.old output.new
-            report.old report.new trace result)
-            self.new };
+        ensures { happens self.old (run inputs.entry files.old files.new result) self.new };
 
-    /// Checks a ruleset for a box, and counts its tables, chains and rules.
-    fn judge(&mut self, rules: &[u8], plant: &[u8]) -> Result<Counts, RunFault>
-        ensures { happens self.old (judge rules.now plant.now result) self.new };
+    /// Checks a ruleset, whose text the host may keep, for a box, and counts its tables, chains and
+    /// rules.
+    fn judge(&mut self, rules: Vec<u8>, plant: &[u8]) -> Result<Counts, RunFault>
+        ensures { happens self.old (judge rules.items plant.now result) self.new };
 
     /// Prints the line of an accepted ruleset to standard output.
     fn print_accepted(&mut self, counts: Counts) -> io::Result<()>

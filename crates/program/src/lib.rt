@@ -16,5 +16,5 @@ pub use identity::FileIdentity;
 pub use performing::perform;
 pub use progress_reader::{Progress, ProgressLine, ProgressReader};
 pub use replaying::replay;
-pub use running::run_with_progress;
+pub use running::{RunFiles, RunInputs, run_with_progress};
 pub use status::Status;

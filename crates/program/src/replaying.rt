@@ -12,9 +12,9 @@ ghost use Rattle.program.specs.steps.AnswerStatus.{replay_status};
 
 use crate::host::Host;
 use crate::identity::FileIdentity;
+use crate::running::{RunFiles, RunInputs};
 use crate::status::Status;
 use command_line::ReplayTask;
-use std::hash::RandomState;
 use std::io;
 
 /// The file that standard output goes to, by Linux's name (proc(5)).
@@ -56,36 +56,37 @@ fn replay_texts<H: Host>(
     ensures { MakesCalls H.happens host.old host.new (λ calls.
         Opens task.now rules.now plant.now calls (replay_status result)) }
 {
-    let mut input = host.open(task.paths.input)?;
+    let input = host.open(task.paths.input)?;
     check_output(host, task)?;
     check_report(host, task)?;
     let hasher = host.draw_keys()?;
-    play(host, task, hasher, rules, plant, &mut input)
+    let inputs = RunInputs {
+        hasher,
+        rules,
+        plant,
+        trace: task.trace,
+    };
+    play(host, task, inputs, input)
 }
 
 /// Creates OUT and, if there is one, FILE, and runs.
 fn play<H: Host>(
     host: &mut H,
     task: &ReplayTask<'_>,
-    hasher: RandomState,
-    rules: &[u8],
-    plant: &[u8],
-    input: &mut H::Input,
+    inputs: RunInputs<'_>,
+    input: H::Input,
 ) -> Result<bool, Status>
     ensures { MakesCalls H.happens host.old host.new (λ calls.
-        Creates task.now hasher rules.now plant.now input.old calls (replay_status result)) }
+        Creates task.now inputs.entry input calls (replay_status result)) }
 {
-    let mut output = host.create(task.paths.output)?;
-    let mut report = create_report(host, task)?;
-    Ok(host.run(
-        hasher,
-        rules,
-        plant,
+    let output = host.create(task.paths.output)?;
+    let report = create_report(host, task)?;
+    let mut files = RunFiles {
         input,
-        &mut output,
-        &mut report,
-        task.trace,
-    )?)
+        output,
+        report,
+    };
+    Ok(host.run(inputs, &mut files)?)
 }
 
 /// Writing OUT must not overwrite what is read, nor the report.

@@ -1,4 +1,4 @@
-//! A run whose progress is shown.
+//! A run: what it is given, its files, and its progress.
 ghost use Rattle.program.specs.Outputs.{UsesDevices, device, capture_bytes};
 
 use crate::progress_reader::{Progress, ProgressReader};
@@ -8,35 +8,56 @@ use std::hash::RandomState;
 use std::io::{Read, Write};
 use std::rt::Clock;
 
+/// What a run is given beside its files.
+#[derive(Clone, Copy)]
+pub struct RunInputs<'a> {
+    /// The keys of its hash tables.
+    pub hasher: RandomState,
+    /// The text of the ruleset.
+    pub rules: &'a [u8],
+    /// The text of the box file.
+    pub plant: &'a [u8],
+    /// Whether the report has each verdict and each outcome.
+    pub trace: bool,
+}
+
+/// The files of a run.
+#[derive(Drop)]
+pub struct RunFiles<I, O> {
+    /// The capture that is read.
+    pub input: I,
+    /// The capture that is written.
+    pub output: O,
+    /// The report; without a file it goes to standard output.
+    pub report: Option<O>,
+}
+
 /// Runs the engine on a capture, shows the progress of reading it, and returns whether the capture
 /// is torn. What is shown changes nothing of the run.
 pub fn run_with_progress<'b, R: Clock + Eprint + AllocGlobal, T: Read, W: Write, W2: Write>(
     rt: &'b R,
-    hasher: RandomState,
-    rules: &[u8],
-    plant: &[u8],
-    input: &mut Counted<ProgressReader<'b, R, T>>,
-    output: &mut Counted<W>,
-    report: &mut Counted<W2>,
-    trace: bool,
+    inputs: RunInputs<'_>,
     progress: Option<Progress>,
+    capture: &mut Counted<ProgressReader<'b, R, T>>,
+    sent: &mut Counted<W>,
+    report: &mut Counted<W2>,
 ) -> Result<bool, RunFault>
-    ensures { UsesDevices rules.now plant.now trace
-        (device (capture_bytes T.remaining) input.old) (device (capture_bytes T.remaining) input.new)
-        (device W.contents output.old) (device W.contents output.new)
+    ensures { UsesDevices inputs.entry.rules.now inputs.entry.plant.now inputs.entry.trace
+        (device (capture_bytes T.remaining) capture.old) (device (capture_bytes T.remaining) capture.new)
+        (device W.contents sent.old) (device W.contents sent.new)
         (device W2.contents report.old) (device W2.contents report.new) result }
 {
-    input.inner.begin(rt, progress);
+    capture.inner.begin(rt, progress);
     let outcome = engine::run(
         rt.alloc(),
-        hasher,
-        rules,
-        plant,
-        input,
-        output,
+        inputs.hasher,
+        inputs.rules,
+        inputs.plant,
+        capture,
+        sent,
         report,
-        trace,
+        inputs.trace,
     );
-    input.inner.end();
+    capture.inner.end();
     Ok(outcome?.torn)
 }

@@ -10,7 +10,8 @@ use engine::{Counts, RunFault};
 use explanations::Explanation;
 use pcap_io::Counted;
 use program::{
-    FileIdentity, Host, Progress, ProgressLine, ProgressReader, Status, perform, run_with_progress,
+    FileIdentity, Host, Progress, ProgressLine, ProgressReader, RunFiles, RunInputs, Status,
+    perform, run_with_progress,
 };
 use std::env::{self, Env};
 use std::fs::OpenFile;
@@ -187,34 +188,22 @@ impl<'a, R: Clock + Env + Files + Print + Eprint + RandomSource + AllocGlobal> H
 
     fn run(
         &mut self,
-        hasher: RandomState,
-        rules: &[u8],
-        plant: &[u8],
-        input: &mut Self::Input,
-        output: &mut Self::Output,
-        report: &mut Option<Self::Output>,
-        trace: bool,
+        inputs: RunInputs<'_>,
+        files: &mut RunFiles<Self::Input, Self::Output>,
     ) -> Result<bool, RunFault> {
         let rt = self.rt;
-        let progress = self.progress(report.is_none());
+        let progress = self.progress(files.report.is_none());
+        let RunFiles {
+            input,
+            output,
+            report,
+        } = files;
         let mut is_closed = false;
         let outcome = match report {
-            Some(file) => run_with_progress(
-                rt, hasher, rules, plant, input, output, file, trace, progress,
-            ),
+            Some(file) => run_with_progress(rt, inputs, progress, input, output, file),
             None => {
                 let mut writer = Counted::new(PipeWriter::new(io::writer(rt)));
-                let outcome = run_with_progress(
-                    rt,
-                    hasher,
-                    rules,
-                    plant,
-                    input,
-                    output,
-                    &mut writer,
-                    trace,
-                    progress,
-                );
+                let outcome = run_with_progress(rt, inputs, progress, input, output, &mut writer);
                 is_closed = writer.into_inner().is_closed();
                 outcome
             }
@@ -227,10 +216,10 @@ impl<'a, R: Clock + Env + Files + Print + Eprint + RandomSource + AllocGlobal> H
         outcome
     }
 
-    fn judge(&mut self, rules: &[u8], plant: &[u8]) -> Result<Counts, RunFault> {
-        let answer = engine::judge(self.rt.alloc(), rules, plant);
+    fn judge(&mut self, rules: Vec<u8>, plant: &[u8]) -> Result<Counts, RunFault> {
+        let answer = engine::judge(self.rt.alloc(), &rules, plant);
         self.accepted = match &answer {
-            Ok(_) => rules.to_vec(self.rt.alloc()).ok(),
+            Ok(_) => Some(rules),
             Err(_) => None,
         };
         answer

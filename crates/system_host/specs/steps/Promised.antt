@@ -15,10 +15,10 @@ Reported _ _ _ _ = ⊥
 -- a run and a check do what the engine guarantees; nothing is known of other calls
 abbrev pub IsGuaranteed : {I O : Type 0} → (I → Option (List ℕ)) → (O → Option (List ℕ))
     → Call (Counted I) (Counted O) → Type 0
-IsGuaranteed remaining contents (run _ rules box input input' output output' file file' traced answer) =
-    Reported contents file file' (λ report report'. UsesDevices rules box traced
-    (device remaining input) (device remaining input') (device contents output) (device contents output')
-    report report' answer)
+IsGuaranteed remaining contents (run inputs before after answer) =
+    Reported contents before.report after.report (λ report report'. UsesDevices inputs.rules.now
+    inputs.plant.now inputs.trace (device remaining before.input) (device remaining after.input)
+    (device contents before.output) (device contents after.output) report report' answer)
 IsGuaranteed remaining contents (judge rules box (Ok counts)) = Judged rules box counts
 IsGuaranteed remaining contents (judge rules box (Err fault)) = JudgeRefuses rules box fault
 IsGuaranteed _ _ _ = Unit {0}

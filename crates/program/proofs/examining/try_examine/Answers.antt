@@ -24,7 +24,7 @@ returns-in_err-counts g c =
     rw p.1 (
       read _ _ ∷ read _ _ ∷ judge _ _ _ ∷ [],
       (_, c.in_ok-rules.ensures, (_, c.in_ok-plant.ensures, (_, c.in_err-counts.ensures, refl))),
-      (refl, (refl, (c.deref.ensures.value, c.deref-2.ensures.value, p.2))),
+      (refl, (refl, (refl, c.deref.ensures.value, p.2))),
     )
 
 pub returns-in_err-print_accepted : goal.returns-in_err-print_accepted
@@ -42,7 +42,7 @@ returns-in_err-print_accepted g c =
           (_, c.in_ok-counts.ensures, (_, c.in_err-print_accepted.ensures, refl)),
         ),
       ),
-      (refl, (refl, (c.deref.ensures.value, c.deref-2.ensures.value, (refl, p.2)))),
+      (refl, (refl, (refl, c.deref.ensures.value, (refl, p.2)))),
     )
 
 pub returns : goal.returns
@@ -57,5 +57,5 @@ returns g c = (
       (_, c.in_ok-counts.ensures, (_, c.in_ok-print_accepted.ensures, refl)),
     ),
   ),
-  (refl, (refl, (c.deref.ensures.value, c.deref-2.ensures.value, (refl, refl)))),
+  (refl, (refl, (refl, c.deref.ensures.value, (refl, refl)))),
 )

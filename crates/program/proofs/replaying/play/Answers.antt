@@ -24,7 +24,7 @@ pub returns-in_err-run : goal.returns-in_err-run
 returns-in_err-run g c =
     let p = err_from_is_err_and c.from_residual-in_err-run.result c.from_residual-in_err-run.ensures.1 in
     let made = c.in_ok-report.ensures in
-    let later = run _ _ _ _ _ _ _ _ _ _ _ ∷ [] in
+    let later = run _ _ _ _ ∷ [] in
     rw p.1 (
       create _ _ ∷ made.0 ++ later,
       (
@@ -32,18 +32,18 @@ returns-in_err-run g c =
         c.in_ok-output.ensures,
         HappenInOrder-append g.H.Host.happens _ _ _ made.0 _ made.1 (_, c.in_err-run.ensures, refl),
       ),
-      (refl, (made.0, _, later, made.2, refl, (refl, refl, refl, refl, refl, refl, refl, p.2))),
+      (refl, (made.0, _, later, made.2, refl, (refl, refl, p.2))),
     )
 
 pub returns : goal.returns
 returns g c =
     let made = c.in_ok-report.ensures in
-    let later = run _ _ _ _ _ _ _ _ _ _ _ ∷ [] in (
+    let later = run _ _ _ _ ∷ [] in (
       create _ _ ∷ made.0 ++ later,
       (
         _,
         c.in_ok-output.ensures,
         HappenInOrder-append g.H.Host.happens _ _ _ made.0 _ made.1 (_, c.in_ok-run.ensures, refl),
       ),
-      (refl, (made.0, _, later, made.2, refl, (refl, refl, refl, refl, refl, refl, refl, refl))),
+      (refl, (made.0, _, later, made.2, refl, (refl, refl, refl))),
     )

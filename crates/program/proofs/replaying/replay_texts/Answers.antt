@@ -66,5 +66,5 @@ returns g c =
         HappenInOrder-append g.H.Host.happens _ _ _ looked.0 _ looked.1
             (HappenInOrder-append g.H.Host.happens _ _ _ again.0 _ again.1 (_, c.in_ok-hasher.ensures, played.1)),
       ),
-      (refl, (looked.0, _, again.0 ++ later, looked.2, refl, (again.0, _, later, again.2, refl, played.2))),
+      (refl, (looked.0, _, again.0 ++ later, looked.2, refl, (again.0, _, later, again.2, refl, (_, (refl, refl, refl, refl), played.2)))),
     )
