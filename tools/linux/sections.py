@@ -1,4 +1,4 @@
-"""The sections of docs/LINUX.md by short names, which are also those of the folders in tools/linux/sections."""
+"""The sections of docs/LINUX.md by short names, which are also those of the folders in tests/linux/sections."""
 from __future__ import annotations
 
 SECTIONS = {

@@ -46,8 +46,17 @@ def test_refusals(trial: Trial, program: Path, right: Path) -> None:
     trial.expect(not prefix.exists(), "a refused program leaves something")
     ended = install(trial, bare, "--unproved", "--prefix", str(prefix))
     trial.expect(ended.status == 0 and "without proofs" in ended.out, f"--unproved fails: {ended.err}")
-    told = run([str(prefix / "bin/nftrun"), "--version"]).out
-    trial.expect("proofs not checked" in told, "nftrun --version doesn't tell of an unproved program")
+    told = run([str(prefix / "bin/nftrun"), "--version"]).out.splitlines()
+    unproved = ["commit unknown", "kit unknown", "without proofs"]
+    trial.expect(told[1:] == unproved, f"nftrun --version tells of an unproved program {told[1:]}")
+    test_front(trial, bare, right)
+
+
+def test_front(trial: Trial, bare: Path, right: Path) -> None:
+    """What the repository's own front tells of a program as `rt try` makes it, and of one with its record."""
+    for program, last in ((bare, "without proofs: no record of its build"), (right, "proofs checked")):
+        told = run([str(trial.top / "tools/nftrun"), "--version"], NFTRUN=str(program)).out.splitlines()
+        trial.expect(told[-1:] == [last], f"nftrun --version tells of {program.parent.name} {told[-1:]}")
 
 
 def test_version(trial: Trial, prefix: Path) -> None:
@@ -59,7 +68,7 @@ def test_version(trial: Trial, prefix: Path) -> None:
     with (prefix / LIBEXEC / "nftrun").open("ab") as file:
         file.write(b"\n")
     told = run([str(prefix / "bin/nftrun"), "--version"]).out.splitlines()
-    trial.expect(told[1:] == ["proofs unknown: no record of its build"], "a changed program passes for proved")
+    trial.expect(told[1:] == ["without proofs: no record of its build"], "a changed program passes for proved")
 
 
 def test_files(trial: Trial, prefix: Path) -> None:

@@ -47,7 +47,8 @@ def refused(front: str, word: str, options: set[str]) -> set[str]:
 def takes_value(front: str, word: str, option: str) -> bool:
     """Whether OPTION=1 is understood: the line of the fault then tells of something else."""
     told = run([front, word, f"{option}=1", *FILES, NEVER]).err.splitlines()
-    faults = " ".join(line.replace(NEVER, "") for line in told if "error:" in line)
+    # clap's line, or that of a command
+    faults = " ".join(line.replace(NEVER, "") for line in told if line.startswith(("error:", f"nftrun {word}:")))
     return not NO_VALUE.search(faults) or option not in faults
 
 

@@ -1,5 +1,9 @@
-"""What Linux keeps of a `limit`, a `quota` and a `ct count`, and what a packet meets there. The sources are those of
-Linux 6.18, net/netfilter; each is tried on a kernel by tests/tools/fit-ruleset/rates-kernel."""
+"""What Linux keeps of a `limit`, a `quota` and a `ct count`, and what a packet meets there.
+
+Each is named with the file of Linux (net/netfilter) that has it, and was tried on Linux 6.18 by
+tests/tools/fit-ruleset/rates-kernel. What a `ct count` does with assured connections comes from such trials alone, not
+from a reading of these files; another kernel may do otherwise.
+"""
 from __future__ import annotations
 
 from dataclasses import dataclass
@@ -69,9 +73,10 @@ class CountedConnections:
     """nft_connlimit.c, nf_conncount.c: a list of tuples, in the order in which they came.
 
     A packet has those removed whose connection is gone (or never came to be, since its packet was dropped) or closed.
-    One of an assured connection adds nothing. Any other stops at its own where that is there, and else adds it: so the
-    tuple of a packet that was over stands in the list until the next new connection comes. Nothing is removed twice in
-    one tick of the kernel; here that is in one moment, as where a packet comes to the list again.
+    One of an assured connection adds nothing (as tried on Linux 6.18). Any other stops at its own where that is there,
+    and else adds it: so the tuple of a packet that was over stands in the list until the next new connection comes.
+    Nothing is removed twice in one tick of the kernel; here that is in one moment, as where a packet comes to the list
+    again.
     """
 
     def __init__(self, terms: Count, connections: Connections) -> None:
