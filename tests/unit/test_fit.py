@@ -9,6 +9,7 @@ from fit import expressions, numbers, tree
 from fit.assumptions import Assumptions, Guess
 from fit.command import fit
 from fit.expressions import ExpressionReader
+from fit.grades import Grade
 from fit.network import Network
 from fit.profile import takes
 from fit.scanner import Refused, scan, shown, slice_of, spelled
@@ -202,7 +203,7 @@ class Fitting(FilesCase):
         head = "table ip t {\nchain c {\ntype filter hook input priority 0;\n"
         path = self.file("rules.nft", head + "synproxy mss 5\n}\n}\n")
         changes = fit(path, None).changes
-        self.assertEqual((changes.worst(), changes.list[-1].place), ("refused", f"{path}:4"))
+        self.assertEqual((changes.worst(), changes.list[-1].place), (Grade.REFUSED, f"{path}:4"))
 
     def test_map_of_rules(self) -> None:
         rules = "table ip t {\nchain c {\ntype filter hook input priority 0;\nreject\n" \

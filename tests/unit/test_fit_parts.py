@@ -8,6 +8,7 @@ from typing import Mapping, Sequence
 from support import BOX, FilesCase
 from fit.assumptions import ASSUMPTIONS
 from fit.command import Fitted, fit
+from fit.grades import Grade
 from fit.network import Network
 from fit.order import Band, spread_down, spread_up
 from fit.profile import takes
@@ -59,7 +60,7 @@ class PartsCase(FilesCase):
 
     def rules(self, rule: str, chain: str = "forward", chosen: Mapping[str, str] | None = None) -> list[str]:
         fitted = self.fit(rule, chain, chosen)
-        self.assertEqual([it.why for it in fitted.changes.list if it.grade == "refused"], [], rule)
+        self.assertEqual([it.why for it in fitted.changes.list if it.grade == Grade.REFUSED], [], rule)
         self.assertTrue(takes(fitted.text, "ruleset"), fitted.text)
         body = re.split(r"\n\t\}", fitted.text.split(f"chain {chain} {{\n")[1])[0]
         lines = [line.strip() for line in body.split("\n")]
@@ -74,10 +75,10 @@ class PartsCase(FilesCase):
     def check_refused(self, table: Mapping[str, str], chain: str = "forward") -> None:
         for rule, why in table.items():
             with self.subTest(rule):
-                found = [it.why for it in self.fit(rule, chain).changes.list if it.grade == "refused"]
+                found = [it.why for it in self.fit(rule, chain).changes.list if it.grade == Grade.REFUSED]
                 self.assertIn(why, " / ".join(found))
 
-    def grade(self, rule: str, chain: str = "forward") -> str:
+    def grade(self, rule: str, chain: str = "forward") -> Grade:
         return self.fit(rule, chain).changes.worst()
 
 
@@ -168,7 +169,7 @@ class Matching(PartsCase):
                "raw; jump a\n}\nchain c { type filter hook forward priority 0; jump a\n}\n}\n"
         for way in ("miss", "hit"):
             fitted = fit(self.file("rules.nft", text), None, {"ct": way})
-            self.assertEqual(fitted.changes.worst(), "guess")
+            self.assertEqual(fitted.changes.worst(), Grade.GUESS)
             self.assertIn("\t\tct state invalid accept\n", fitted.text)
 
     def test_where_there_is_no_output_interface(self) -> None:
@@ -182,8 +183,8 @@ class Matching(PartsCase):
         }, "pre")
         self.check({'oifname != "lan" accept': ['oifname != "lan" accept']}, "both")
         self.check({'oifname != "lan" accept': ["ip length != 0 accept"]}, "both", {"meta": "hit"})
-        self.assertEqual(self.grade('oifname != "lan" accept', "both"), "guess")
-        self.assertEqual(self.grade('oifname != "lan" accept', "pre"), "same")
+        self.assertEqual(self.grade('oifname != "lan" accept', "both"), Grade.GUESS)
+        self.assertEqual(self.grade('oifname != "lan" accept', "pre"), Grade.SAME)
         self.check_refused({'iifname . oif { "lan" . 0 } accept': "where there is none"}, "pre")
 
     def test_ports_of_other_protocols(self) -> None:
@@ -214,10 +215,10 @@ class Matching(PartsCase):
     def test_protocols_by_the_chains_before(self) -> None:
         text = "table ip t {\nchain a { th dport 53 accept\n}\nchain b { type filter hook forward priority 0;\n%s\n" \
                "}\n}\n"
-        for way, grade in (("meta l4proto { tcp, udp } jump a", "same"), ("jump a", "guess"),
-                           ("ip protocol vmap { tcp : jump a, icmp : drop }", "same"),
-                           ("ip protocol != icmp goto a", "guess"),
-                           ("meta l4proto . ip ttl { udp . 5 } jump a", "same")):
+        for way, grade in (("meta l4proto { tcp, udp } jump a", Grade.SAME), ("jump a", Grade.GUESS),
+                           ("ip protocol vmap { tcp : jump a, icmp : drop }", Grade.SAME),
+                           ("ip protocol != icmp goto a", Grade.GUESS),
+                           ("meta l4proto . ip ttl { udp . 5 } jump a", Grade.SAME)):
             fitted = fit(self.file("rules.nft", text % way), None)
             self.assertEqual(fitted.changes.worst(), grade, way)
 
@@ -269,8 +270,8 @@ class Unread(PartsCase):
                     "meta rtclassid . ip saddr { 0 . 10.0.0.1 } accept": [f"{NEVER} ip saddr {{ 10.0.0.1 }} accept"],
                     "meta oifgroup . ip saddr != { 5 . 10.0.0.1 } accept": [
                         f"{NEVER} ip saddr != {{ 10.0.0.1 }} accept"]}, "pre")
-        self.assertEqual({self.grade(f"{it} accept", "pre") for it in matches}, {"same"})
-        self.assertEqual(self.grade("rt classid 0 accept", "forward"), "guess")
+        self.assertEqual({self.grade(f"{it} accept", "pre") for it in matches}, {Grade.SAME})
+        self.assertEqual(self.grade("rt classid 0 accept", "forward"), Grade.GUESS)
 
     def test_usual_values(self) -> None:
         self.check({
@@ -281,7 +282,7 @@ class Unread(PartsCase):
             "tcp reserved 0-15 accept": ["meta l4proto tcp accept"],
             "tcp urgptr != 0 accept": [f"meta l4proto tcp {NEVER} accept"],
         })
-        self.assertEqual(self.grade("tcp reserved 0-15 accept"), "same")
+        self.assertEqual(self.grade("tcp reserved 0-15 accept"), Grade.SAME)
 
     def test_turned(self) -> None:
         self.check({
@@ -300,7 +301,7 @@ class Unread(PartsCase):
     def test_zones(self) -> None:
         zones = "ct zone set 5", "ct zone 5 accept", "ct zone vmap { 0 : accept }", "ct zone . ip ttl { 0 . 5 } accept"
         told = self.fit("\n".join(zones)).changes.list
-        self.assertEqual([it.grade for it in told if it.what.startswith("ct zone")][:4], ["guess"] * 4)
+        self.assertEqual([it.grade for it in told if it.what.startswith("ct zone")][:4], [Grade.GUESS] * 4)
         self.assertEqual(self.rules("ct zone . ip saddr { 0 . 10.0.0.1 } accept"), [
             f"{TRACKED} ip saddr {{ 10.0.0.1 }} accept"])
 
@@ -308,13 +309,13 @@ class Unread(PartsCase):
         lines = "ip dscp set cs1", "ip dscp cs1 accept", "meta nftrace set 1", "meta nftrace 1 accept", "ct label set 5"
         fitted = self.fit("\n".join(lines))
         told = [(it.grade, it.what) for it in fitted.changes.list if "sum" not in it.what and "ftp" not in it.what]
-        self.assertIn(("guess", "ip dscp set cs1"), told)
-        self.assertIn(("guess", "meta nftrace 1"), told)
-        self.assertIn(("outcome", "ct label set 5"), told)
-        self.assertEqual(self.grade("ip dscp set cs1"), "outcome")
+        self.assertIn((Grade.GUESS, "ip dscp set cs1"), told)
+        self.assertIn((Grade.GUESS, "meta nftrace 1"), told)
+        self.assertIn((Grade.OUTCOME, "ct label set 5"), told)
+        self.assertEqual(self.grade("ip dscp set cs1"), Grade.OUTCOME)
         copied = "meta secmark set ct secmark\nct secmark set meta secmark"
-        self.assertEqual(self.grade(copied), "outcome")
-        self.assertEqual(self.grade(f"{copied}\nct secmark 5 accept"), "guess")
+        self.assertEqual(self.grade(copied), Grade.OUTCOME)
+        self.assertEqual(self.grade(f"{copied}\nct secmark 5 accept"), Grade.GUESS)
         self.check({"meta secmark set ct secmark accept": [f"{TRACKED} accept"]})
         joined = self.fit("ip dscp set cs1\nip saddr . ip dscp { 10.0.0.1 . cs1 } accept")
         self.assertIn("rules.nft:26)", next(it.why for it in joined.changes.list if it.to == "without ip dscp"))
@@ -492,9 +493,9 @@ class Effects(PartsCase):
         add += "chain added { type filter hook forward priority 9; update @one { ip saddr } accept; }"
         told = self.fit(add, "add")
         self.assertIn("ip saddr { 10.0.0.5 } accept", told.text)
-        self.assertEqual(self.grade("add @seen { ip saddr } drop"), "guess")
-        self.assertEqual(self.grade("add @seen { ip saddr }"), "outcome")
-        self.assertEqual(self.grade("meter m size 256 { ip protocol } accept"), "outcome")
+        self.assertEqual(self.grade("add @seen { ip saddr } drop"), Grade.GUESS)
+        self.assertEqual(self.grade("add @seen { ip saddr }"), Grade.OUTCOME)
+        self.assertEqual(self.grade("meter m size 256 { ip protocol } accept"), Grade.OUTCOME)
 
     def test_keys_without_a_value(self) -> None:
         self.check({
@@ -543,8 +544,8 @@ class Ordering(FilesCase):
         chain = "chain c%d { type filter hook prerouting priority -150; counter; }\n"
         chains = "".join(chain % it for it in range(100))
         changes = fit(self.file("rules.nft", f"table ip t {{\n{chains}}}\n"), None).changes
-        self.assertEqual(changes.worst(), "refused")
-        self.assertIn("no room", [it for it in changes.list if it.grade == "refused"][0].why)
+        self.assertEqual(changes.worst(), Grade.REFUSED)
+        self.assertIn("no room", [it for it in changes.list if it.grade == Grade.REFUSED][0].why)
 
     def test_just_at_the_look_up(self) -> None:
         text = "table ip t {\nchain a { type filter hook prerouting priority -200; %s\n}\n}\n"
@@ -554,7 +555,7 @@ class Ordering(FilesCase):
         for priority in ("4294967296", "filter + 2147483648", "9" * 5000):
             with self.subTest(priority):
                 rules = f"table ip t {{\nchain a {{ type filter hook input priority {priority}; accept\n}}\n}}\n"
-                self.assertEqual(fit(self.file("rules.nft", rules), None).changes.worst(), "refused")
+                self.assertEqual(fit(self.file("rules.nft", rules), None).changes.worst(), Grade.REFUSED)
 
 
 class Commanding(FilesCase):

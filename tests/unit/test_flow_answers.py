@@ -13,7 +13,7 @@ from support import BOX, LAN, LINK, TOP, WAN, FilesCase, capture_of
 from toolbox.boxes import Box
 from toolbox.captures import (
     ETHERNET, LINUX_SLL2, OTHER_STATION, RAW_IP, SENT_BY_US, TO_US, records, sll2_header, write_header, write_record)
-from toolbox.flows import BEGUN, OPENER, SIDE, SYN_ACK, Flows
+from toolbox.flows import OPENER, SYN_ACK, Flows
 from toolbox.replay import Files, Replay, silence
 
 sys.path[:0] = [str(TOP / "tests/tools/made")]
@@ -45,7 +45,8 @@ class Learned(FilesCase):
 
     def test_a_handshake_whose_number_goes_round(self) -> None:
         flows = self.flows((1, LAN, TO_US, syn(HOST, GREATEST)), (2, WAN, TO_US, answered(50000, 0)))
-        self.assertEqual((list(flows.of), flows.role[2]), ([0, 1, 1], SIDE | SYN_ACK))
+        self.assertEqual(list(flows.of), [0, 1, 1])
+        self.assertEqual((flows.is_reply[2], flows.part[2]), (True, SYN_ACK))
 
     def test_a_handshake_among_many(self) -> None:
         frames = [(number, LAN, TO_US, syn(End(HOST.address, 4000 + number), 100 * number)) for number in range(1, 5)]
@@ -69,7 +70,7 @@ class Learned(FilesCase):
         scan = (1, LAN, TO_US, tcp(HOST, WEB, 64, ACK, 1, 1))
         for flags, begins in ((RST, True), (ACK, False)):
             flows = self.flows(scan, (2, WAN, TO_US, tcp(WEB, HOST, 60, flags, 1, 1)))
-            self.assertEqual((flows.role[1], flows.is_marked(1, BEGUN)), (OPENER, begins))
+            self.assertEqual((flows.part[1], flows.all[1].has_begun), (OPENER, begins))
             self.assertEqual(flows.without_beginning(), 0 if begins else 1)
 
 

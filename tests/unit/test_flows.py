@@ -10,7 +10,7 @@ from support import BOX, LAN, WAN, FilesCase, capture_of, masquerade
 from toolbox import packets
 from toolbox.boxes import Box
 from toolbox.captures import SENT_BY_US, TO_US
-from toolbox.flows import BEGUN, ERROR, LEARNED, OPENER, OWN, SIDE, SYN_ACK, TRANSLATED, Flows
+from toolbox.flows import ERROR, OPENER, OTHER, SYN_ACK, Flows
 from toolbox.replay import AS_CAPTURED, NOT_SENT, Files, Replay
 
 
@@ -32,24 +32,25 @@ class OfRouter(FilesCase):
         self.assertEqual([of[number] for number in (2, 4, 6, 7, 10, 12, 13)], [0] * 7)
         self.assertEqual(len({of[1], of[8], of[9], of[14]}), 4)
 
-    def test_sides_and_roles(self) -> None:
-        role = self.flows.role
-        self.assertEqual(role[1], OPENER)
-        self.assertEqual(role[3], SIDE | SYN_ACK)
-        self.assertEqual(role[5] & SIDE, 0)
-        self.assertEqual(role[11], ERROR | SIDE)
-        self.assertEqual(role[9], OPENER)
+    def test_sides_and_parts(self) -> None:
+        known = list(zip(self.flows.is_reply, self.flows.part))
+        self.assertEqual(known[1], (False, OPENER))
+        self.assertEqual(known[3], (True, SYN_ACK))
+        self.assertEqual(known[5], (False, OTHER))
+        self.assertEqual(known[11], (True, ERROR))
+        self.assertEqual(known[9], (False, OPENER))
 
     def test_what_is_known_of_flows(self) -> None:
         flows = self.flows
-        self.assertEqual(flows.flags[1] & (BEGUN | TRANSLATED | LEARNED), BEGUN | TRANSLATED | LEARNED)
-        self.assertTrue(flows.flags[flows.of[8]] & OWN)
+        first = flows.all[1]
+        self.assertEqual((first.has_begun, first.is_translated, first.is_learned), (True, True, True))
+        self.assertEqual([flow.number for flow in flows.all if flow.is_own], [flows.of[8]])
         self.assertEqual(flows.answers_to_box(), [8])
         self.assertEqual((flows.copies, flows.own), (6, 1))
-        self.assertEqual((flows.answered[1], flows.acked[1]), (3, 5))
-        self.assertEqual(flows.answered[flows.of[9]], 11)
+        self.assertEqual((first.answered, first.acked), (3, 5))
+        self.assertEqual(flows.all[flows.of[9]].answered, 11)
         self.assertEqual(flows.without_beginning(), 0)
-        self.assertEqual(flows.some(), [1, 2, 3, 4])
+        self.assertEqual([flow.number for flow in flows.some()], [1, 2, 3, 4])
 
     def test_tuples(self) -> None:
         self.assertEqual(packets.tuple_text(self.flows.tuple_of(3)), "tcp 198.51.100.7:443 > 203.0.113.1:50000")
@@ -58,7 +59,7 @@ class OfRouter(FilesCase):
     def test_without_copies_the_answer_is_found_by_its_handshake(self) -> None:
         flows = Flows(self.path, self.box, use_copies=False)
         self.assertEqual(flows.of[3], 1)
-        self.assertEqual(flows.role[3] & SIDE, 1)
+        self.assertTrue(flows.is_reply[3])
         self.assertNotEqual(flows.of[11], flows.of[9])
 
     def test_idle_limits(self) -> None:
@@ -70,8 +71,8 @@ class OfStation(FilesCase):
     def test_ethernet(self) -> None:
         flows = Flows(self.capture("in.pcap", STATION), Box(self.file("box.txt", BOX)))
         self.assertEqual(list(flows.of), [0, 1, 1, 0, 1])
-        self.assertTrue(flows.flags[1] & TRANSLATED)
-        self.assertEqual(flows.role[2], SIDE | SYN_ACK)
+        self.assertTrue(flows.all[1].is_translated)
+        self.assertEqual((flows.is_reply[2], flows.part[2]), (True, SYN_ACK))
 
 
 class OfPlainRouting(FilesCase):
@@ -87,8 +88,9 @@ class OfPlainRouting(FilesCase):
 
     def test_the_inverse_is_the_other_side(self) -> None:
         flows = self.flows(1, 2, 3)
-        self.assertEqual((list(flows.of), list(flows.role)), ([0, 1, 1, 1], [0, OPENER, SIDE, 0]))
-        self.assertEqual(flows.answered[1], 2)
+        self.assertEqual(list(flows.of), [0, 1, 1, 1])
+        self.assertEqual(list(zip(flows.is_reply, flows.part))[1:], [(False, OPENER), (True, OTHER), (False, OTHER)])
+        self.assertEqual(flows.all[1].answered, 2)
 
     def test_a_flow_ends_when_its_idle_limit_passes(self) -> None:
         self.assertEqual(list(self.flows(1, 300).of), [0, 1, 1])

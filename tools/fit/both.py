@@ -10,6 +10,7 @@ from typing import TYPE_CHECKING, Callable, Optional, Sequence
 from toolbox import captures, program, reports
 
 from .assumptions import ASSUMPTIONS, REFUSE, Guess, other_way
+from .grades import Grade
 
 if TYPE_CHECKING:
     from .command import Fitted
@@ -33,7 +34,7 @@ def try_both(fit: Fitting, names: Namespace, write: Callable[[str], None]) -> bo
     changes a record, or None where the ruleset can't be fitted."""
     path = program.find_program()
     first = fit(None)
-    if first.changes.worst() == "refused":
+    if first.changes.worst() == Grade.REFUSED:
         return None
     guesses = list(dict.fromkeys(first.assumptions.asked))
     kept = 0
@@ -55,7 +56,7 @@ def tried(
     if other == REFUSE:
         return True, f"{name}={way}: there is no other way to try ({ASSUMPTIONS[name].why})"
     turned = fit(guess)
-    refused = [it.why for it in turned.changes.list if it.grade == "refused"]
+    refused = [it.why for it in turned.changes.list if it.grade == Grade.REFUSED]
     if refused:
         return True, f"{name}={way}: {name}={other} can't be fitted: {refused[0]}"
     found = differing(usual, run(path, turned, names, folder, "turned"))

@@ -6,15 +6,14 @@ from typing import Iterator
 
 from toolbox.lexer import Token
 
+from .grades import Grade
 from .scanner import place
-
-GRADES = ("same", "outcome", "guess", "refused")
 
 
 @dataclass(frozen=True)
 class Change:
     place: str
-    grade: str
+    grade: Grade
     what: str
     to: str
     why: str
@@ -26,19 +25,19 @@ class Changes:
     def __init__(self) -> None:
         self.list: list[Change] = []
         self.warnings: list[tuple[str, str]] = []
-        self.told: set[tuple[str, str, str]] = set()
+        self.told: set[tuple[Grade, str, str]] = set()
 
-    def tell(self, token: Token, grade: str, what: str, to: str, why: str) -> None:
+    def tell(self, token: Token, grade: Grade, what: str, to: str, why: str) -> None:
         self.list.append(Change(place(token), grade, what, to, why))
 
-    def tell_once(self, token: Token, grade: str, what: str, to: str, why: str) -> None:
+    def tell_once(self, token: Token, grade: Grade, what: str, to: str, why: str) -> None:
         """Once for a ruleset, as it is the same everywhere."""
         if (grade, what, to) not in self.told:
             self.told.add((grade, what, to))
             self.tell(token, grade, what, to, why)
 
     def refuse(self, token: Token, what: str, why: str) -> None:
-        self.tell(token, "refused", what, "", why)
+        self.tell(token, Grade.REFUSED, what, "", why)
 
     def warn(self, token: Token, text: str) -> None:
         if (place(token), text) not in self.warnings:
@@ -50,8 +49,8 @@ class Changes:
             if one not in self.warnings:
                 self.warnings.append(one)
 
-    def worst(self) -> str:
-        return max((it.grade for it in self.list), key=GRADES.index, default="same")
+    def worst(self) -> Grade:
+        return max((it.grade for it in self.list), key=lambda grade: grade.rank, default=Grade.SAME)
 
     def in_order(self) -> list[Change]:
         """By file and line, as far as these go."""
@@ -61,7 +60,7 @@ class Changes:
     def lines(self) -> Iterator[str]:
         for it in self.in_order():
             to = f" -> {it.to}" if it.to else ""
-            yield f"{it.place}: {it.grade}: {it.what}{to} ({it.why})"
+            yield f"{it.place}: {it.grade.value}: {it.what}{to} ({it.why})"
         for where, text in self.warnings:
             yield f"{where}: warning: {text}"
 

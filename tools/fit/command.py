@@ -16,9 +16,10 @@ from toolbox.program import find_program, run_child, workspace
 
 from .assumptions import ASSUMPTIONS, Assumptions, Guess, listed
 from .both import try_both
-from .changes import GRADES, Changes
+from .changes import Changes
 from .commands import Commands
 from .fitter import Fitter
+from .grades import WRITTEN, Grade
 from .network import Network
 from .profile import SIZE, takes
 from .rates import run as rates
@@ -62,7 +63,7 @@ def fit(
     body = fitter.run()
     if not changes.list and takes(source.text, "ruleset"):
         return Fitted(source.text, plain_rows(fitter), changes, assumptions, True)
-    head = f"# by fit-ruleset from {commands.printable(os.path.basename(path))}: {changes.worst()}\n"
+    head = f"# by fit-ruleset from {commands.printable(os.path.basename(path))}: {changes.worst().value}\n"
     return Fitted(head + body, rows_of(fitter), changes, assumptions, False)
 
 
@@ -131,8 +132,8 @@ def parsed_arguments() -> argparse.Namespace:
     parser.add_argument(
         "--at-most",
         metavar="GRADE",
-        choices=GRADES[:3],
-        default="guess",
+        choices=[grade.value for grade in WRITTEN],
+        default=Grade.GUESS.value,
         help="same, outcome or guess: the worst grade that is written (guess)",
     )
     parser.add_argument(
@@ -202,11 +203,11 @@ def write(fitted: Fitted, names: argparse.Namespace, subjects: Subjects | None =
     worst = fitted.changes.worst()
     count = len(fitted.changes.list)
     changes = "1 change" if count == 1 else f"{count} changes"
-    summary = "nothing changed" if fitted.stays else f"{changes}, the worst: {worst}"
-    if worst == "refused":
-        number = sum(it.grade == "refused" for it in fitted.changes.list)
+    summary = "nothing changed" if fitted.stays else f"{changes}, the worst: {worst.value}"
+    if worst == Grade.REFUSED:
+        number = sum(it.grade == Grade.REFUSED for it in fitted.changes.list)
         raise Refused(f"{names.rules}: {number} of {count} changes can't be made, as told above")
-    if GRADES.index(worst) > GRADES.index(names.at_most):
+    if worst.rank > Grade(names.at_most).rank:
         commands.warn(f"{NAME}: {summary}, which is worse than {names.at_most}: nothing is written")
         return WORSE
     text = fitted.text

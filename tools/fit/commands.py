@@ -10,6 +10,7 @@ from toolbox.lexer import Source, Token
 
 from .dynamic import BOUNDS
 from .expressions import ExpressionReader, as_number
+from .grades import Grade
 from .scanner import END, Refused, moved, refuse, scan, shown, slice_of
 from .tree import Bound, Chain, Head, NamedObject, NotFitted, Rule, Set, Table
 
@@ -115,7 +116,7 @@ class Commands:
                 continue
             if token.text[1:] not in self.variables:
                 raise refuse(token, f"{token.text} isn't defined")
-            self.changes.tell_once(token, "same", token.text, "its value", "a definition")
+            self.changes.tell_once(token, Grade.SAME, token.text, "its value", "a definition")
             out += [moved(it, token) for it in self.variables[token.text[1:]]]
         return out
 
@@ -130,12 +131,12 @@ class Commands:
             {"flush": self.flush, "rename": self.rename}.get(word, self.delete)()
         elif word in ("add", "create", "insert"):
             self.take()
-            self.changes.tell_once(token, "same", f"command {word}", "a part of its table", NOTHING_ELSE)
+            self.changes.tell_once(token, Grade.SAME, f"command {word}", "a part of its table", NOTHING_ELSE)
             self.add(word)
         elif word in ("table", "chain", "rule", "set", "map", "element", *OBJECTS):
             self.add("add")
         elif word in ("list", "reset", "monitor", "describe"):
-            self.changes.tell(token, "same", word, "left out", "it changes nothing that is loaded")
+            self.changes.tell(token, Grade.SAME, word, "left out", "it changes nothing that is loaded")
             self.to_end()
         else:
             raise refuse(token, f"the command `{spoken(token)}` isn't understood")
@@ -150,7 +151,7 @@ class Commands:
             self.variables.pop(name, None)
             return
         self.take("=")
-        self.changes.tell_once(token, "same", token.text, "left out", "values stand where they are used")
+        self.changes.tell_once(token, Grade.SAME, token.text, "left out", "values stand where they are used")
         self.variables[name] = self.to_end()
 
     def include(self, token: Token) -> None:
@@ -163,10 +164,10 @@ class Commands:
         if len(self.including) > INCLUDE_DEPTH or any(os.path.realpath(it) in self.including for it in paths):
             raise refuse(token, "files that include each other")
         if is_nfts or not paths:
-            self.changes.tell(token, "same", f"include {pattern}", f"{len(paths)} files", "put in")
+            self.changes.tell(token, Grade.SAME, f"include {pattern}", f"{len(paths)} files", "put in")
         else:
             why = "assumed: nft(8) is told of their folder by -I; it doesn't look beside the file that includes them"
-            self.changes.tell(token, "guess", f"include {pattern}", ", ".join(paths), why)
+            self.changes.tell(token, Grade.GUESS, f"include {pattern}", ", ".join(paths), why)
         for path in paths:
             self.read(path)
 
@@ -196,7 +197,7 @@ class Commands:
             family = self.take().text if self.peek().text in FAMILIES else None
             self.tables = {key: it for key, it in self.tables.items() if family not in (None, key[0])}
             return
-        self.changes.tell_once(token, "same", f"flush {what}", "done", NOTHING_ELSE)
+        self.changes.tell_once(token, Grade.SAME, f"flush {what}", "done", NOTHING_ELSE)
         if what == "table" and self.nothing_to_flush():
             return
         table = self.table_of()
@@ -223,7 +224,7 @@ class Commands:
     def delete(self) -> None:
         token = self.take()
         what = self.take().text
-        self.changes.tell(token, "same", f"{token.text} {what}", "done", NOTHING_ELSE)
+        self.changes.tell(token, Grade.SAME, f"{token.text} {what}", "done", NOTHING_ELSE)
         if what == "table":
             if not self.skip("handle"):
                 self.tables.pop((self.family(), self.name()), None)
@@ -260,7 +261,7 @@ class Commands:
             raise refuse(token, f"there is a chain {name} already")
         table.chains = {name if it is chain else key: it for key, it in table.chains.items()}
         chain.name = name
-        self.changes.tell(token, "same", "rename chain", "done", NOTHING_ELSE)
+        self.changes.tell(token, Grade.SAME, "rename chain", "done", NOTHING_ELSE)
 
     def add(self, verb: str) -> None:
         token = self.take()
@@ -268,7 +269,7 @@ class Commands:
         if what == "table":
             self.table()
         elif what == "element":
-            self.changes.tell_once(token, "same", "add element", "an element of its set", NOTHING_ELSE)
+            self.changes.tell_once(token, Grade.SAME, "add element", "an element of its set", NOTHING_ELSE)
             found = self.one_of(self.table_of().sets, "set")
             found.slices = None
             self.add_elements(found, self.to_end())
@@ -314,7 +315,7 @@ class Commands:
         key = self.family(), self.name()
         if key in self.tables and self.has("{"):
             self.changes.tell_once(
-                token, "same", f"table {' '.join(key)} again", "one block", "its blocks are joined"
+                token, Grade.SAME, f"table {' '.join(key)} again", "one block", "its blocks are joined"
             )
         table = self.tables.setdefault(key, Table(*key, token))
         if not self.skip("{"):
@@ -333,7 +334,7 @@ class Commands:
             flags = [it.text for it in self.to_end() if it.kind == "word"]
             table.is_dormant |= "dormant" in flags
             self.changes.tell(
-                token, "same", f"flags {', '.join(flags)}", "left out", "they change no packet, but for `dormant`"
+                token, Grade.SAME, f"flags {', '.join(flags)}", "left out", "they change no packet, but for `dormant`"
             )
         elif self.has("chain", "set", "map", *OBJECTS):
             what = self.take().text

@@ -6,6 +6,7 @@ from typing import Sequence
 
 from .draft import Draft
 from .facts import WORDS
+from .grades import Grade
 from .tree import Anything, Calculation, Element, Elements, Expression, Listed, NotFitted, One
 
 INVALID, UNTRACKED = 1, 64  # what `ct state` is there, before and behind `notrack`
@@ -70,7 +71,7 @@ class Connections:
             self.guess_state(state_holds(INVALID, operator, right))
             return not chain.is_late
         why = "before connections are looked for Linux reads ct state as invalid; no match of nftrun on it holds there"
-        self.draft.tell("same", self.draft.always(), why)
+        self.draft.tell(Grade.SAME, self.draft.always(), why)
         self.draft.put(self.draft.always())
         return True
 
@@ -95,7 +96,7 @@ class Connections:
         """A comparison with all of `ct status`, in which Linux has more bits than those that are named."""
         is_not = operator in ("!=", "!")
         why = "Linux compares with the whole value, which has more bits wherever one of these is set"
-        self.draft.tell("same", IN_ANY_DIRECTION if is_not else self.draft.never(), why)
+        self.draft.tell(Grade.SAME, IN_ANY_DIRECTION if is_not else self.draft.never(), why)
         if is_not:
             self.draft.put(IN_ANY_DIRECTION)
         else:

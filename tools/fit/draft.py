@@ -6,6 +6,7 @@ from typing import TYPE_CHECKING, Iterable, Iterator, Sequence
 
 from .changes import Changes
 from .facts import ICMP_FIELDS, MARKS, TRANSPORTS, first_word
+from .grades import Grade
 from .numbers import spell_value
 from .profile import takes
 from .scanner import place, shown, slice_of, spelled
@@ -87,11 +88,11 @@ class Draft:
         stands = self.statement_text()
         is_taken = takes(stands, "statement")
         if reading:
-            self.tell("same", text, reading)
+            self.tell(Grade.SAME, text, reading)
         elif is_taken and plain:
             text = stands
         else:
-            self.tell("same", text, "spelled anew")
+            self.tell(Grade.SAME, text, "spelled anew")
         self.put(text, kind, reads)
 
     def never(self) -> str:
@@ -166,7 +167,7 @@ class Draft:
 
     # what is told
 
-    def tell(self, grade: str, to: str, why: str, what: str | None = None) -> None:
+    def tell(self, grade: Grade, to: str, why: str, what: str | None = None) -> None:
         self.told.tell(self.rule.token, grade, what or self.statement_line(), to, why)
 
     def statement_line(self) -> str:
@@ -181,4 +182,4 @@ class Draft:
 
     def guess(self, name: str, way: str, to: str, what: str | None = None, why: str | None = None) -> None:
         """Tells what a guess made of the statement."""
-        self.tell("guess", to, why or self.fitter.assumptions.why(name, way), what)
+        self.tell(Grade.GUESS, to, why or self.fitter.assumptions.why(name, way), what)

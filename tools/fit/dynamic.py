@@ -7,6 +7,7 @@ from typing import Callable, Sequence
 
 from .draft import Draft
 from .facts import FIELD_WIDTHS, TYPES, WIDTHS
+from .grades import Grade
 from .scanner import place, spelled
 from .tree import Bound, ChangeOfSet, Element, Expression, Joined, Match, Missing, Rule, Selector, Set
 
@@ -45,7 +46,7 @@ class Dynamic:
         if first is not None:
             bounds = first.change.bounds
             why = f"the element is there already, by {first.place}, and keeps what it was made with"
-            self.draft.tell("same", "with the bounds of that element" if bounds else "without bounds", why)
+            self.draft.tell(Grade.SAME, "with the bounds of that element" if bounds else "without bounds", why)
         elif odd and self.is_there(odd[0]):
             bounds = odd[0].change.bounds
         listed = [it for it in self.draft.fitter.sets.kept(found) if not bounds_of(it)] if found else []

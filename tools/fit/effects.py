@@ -7,6 +7,7 @@ from typing import Sequence
 from .draft import Draft
 from .dynamic import Dynamic
 from .facts import NEVER_IN_IPV4, first_word
+from .grades import Grade
 from .maps import Maps
 from .matches import Matches
 from .profile import takes
@@ -44,7 +45,7 @@ class Effects:
         if verdict.target is not None and verdict.target not in self.draft.table.chains:
             raise Missing(f"there is no chain {verdict.target}")
         if verdict.word == "continue" and not self.draft.is_last():
-            self.draft.tell("same", "left out", "a packet goes on in the rule")
+            self.draft.tell(Grade.SAME, "left out", "a packet goes on in the rule")
             return
         self.draft.put(verdict_text(verdict), "end")
 
@@ -55,10 +56,10 @@ class Effects:
                 continue
             self.draft.found = it
             if it.what.words[:1] == ("icmpv6",):
-                self.draft.tell("same", self.draft.never() + " in front", "it is for IPv6 packets alone")
+                self.draft.tell(Grade.SAME, self.draft.never() + " in front", "it is for IPv6 packets alone")
                 self.draft.die()
             elif it.what.words == ("tcp", "reset") and not self.asks_for_tcp():
-                self.draft.tell("same", "meta l4proto tcp in front", "nft(8) tests for TCP first")
+                self.draft.tell(Grade.SAME, "meta l4proto tcp in front", "nft(8) tests for TCP first")
                 self.draft.put("meta l4proto tcp")
 
     def asks_for_tcp(self) -> bool:
@@ -70,7 +71,7 @@ class Effects:
 
     def fit_reject(self, *_: str) -> None:
         why = "the packet is dropped as well; the answer isn't shown, nor what it counts in postrouting"
-        self.draft.tell("outcome", "drop", why)
+        self.draft.tell(Grade.OUTCOME, "drop", why)
         self.draft.put("drop", "end")
 
     def fit_queue(self) -> None:
@@ -97,7 +98,7 @@ class Effects:
             raise NotFitted(f"`{self.draft.statement_line()}` isn't understood")
         else:
             start = self.start_of(named)
-            self.draft.tell("same", "counter", f"the counter {named} is the sum of the counters of its rules")
+            self.draft.tell(Grade.SAME, "counter", f"the counter {named} is the sum of the counters of its rules")
             self.fit_counter(start)
 
     def object_by_map(self, what: str, lookup: Lookup) -> None:
@@ -105,7 +106,7 @@ class Effects:
         if what != "counter":
             raise NotFitted(f"{what} by a map")
         self.draft.tell(
-            "outcome",
+            Grade.OUTCOME,
             "left out",
             "which counter of the map it is isn't shown; keys that it hasn't end the rule as before",
         )
@@ -130,7 +131,7 @@ class Effects:
             prefix = f'"{prefix}"'
         text = "log" + (f" prefix {prefix}" if prefix is not None else "")
         if others:
-            self.draft.tell("same", text, f"{', '.join(others)}: where and how it is told is no matter of packets")
+            self.draft.tell(Grade.SAME, text, f"{', '.join(others)}: where and how it is told is no matter of packets")
             self.draft.put(text, "effect")
         else:
             self.draft.put_spelled(text, kind="effect")
@@ -152,15 +153,17 @@ class Effects:
         """A rule that changes a set: it goes on where the key has a value, and where its bounds hold."""
         name = change.name
         if any(first_word(it.name) in NEVER_IN_IPV4 for it in selectors_in(change.key)):
-            self.draft.tell("same", self.draft.never(), "it reads a header that no IPv4 packet has")
+            self.draft.tell(Grade.SAME, self.draft.never(), "it reads a header that no IPv4 packet has")
             self.draft.die()
             return
         if name in self.draft.table.sets and self.draft.fitter.is_read(self.draft.table, name):
             self.draft.tell(
-                "outcome", "left out", f"nothing is kept in {name}; what is guessed of it is told where rules read it"
+                Grade.OUTCOME,
+                "left out",
+                f"nothing is kept in {name}; what is guessed of it is told where rules read it",
             )
         else:
-            self.draft.tell("outcome", "left out", f"what is in {name} isn't shown")
+            self.draft.tell(Grade.OUTCOME, "left out", f"what is in {name} isn't shown")
         self.matches.unread.keep_key(change.key, change.data)
         if change.word != "delete" and not self.draft.is_dead:
             self.dynamic.fit_bounds(change, lambda listed: self.ask_for(change.key, listed))

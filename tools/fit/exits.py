@@ -5,6 +5,7 @@ from __future__ import annotations
 from typing import Sequence
 
 from .draft import Draft
+from .grades import Grade
 from .numbers import holds
 from .tree import Anything, Element, Elements, Expression, One, Part, Range
 
@@ -34,7 +35,7 @@ class Exits:
             return False
         why = "on prerouting and input Linux reads an empty name, so it holds; no match of nftrun on it holds there"
         if self.are_none():
-            self.draft.tell("same", self.draft.always(), why)
+            self.draft.tell(Grade.SAME, self.draft.always(), why)
             self.draft.put(self.draft.always())
             return True
         way = self.draft.way("meta")

@@ -6,6 +6,8 @@ from typing import Mapping
 
 from toolbox.language import NFT
 
+from .grades import Grade
+
 # What nftrun's language has
 
 PROTOCOLS, SERVICES = NFT.types["inet_proto"].words, NFT.types["inet_service"].words
@@ -208,22 +210,22 @@ UNKNOWN = {
     "osf": "header",
 }
 # `.. set` of what nftrun doesn't write: how much it matters that it is left out, and why
-LEFT_OUT: dict[str, tuple[str, str]] = {
-    "meta nftrace": ("same", "it changes no packet; --trace tells all"),
-    "ct event": ("same", "it changes no packet"),
-    "meta priority": ("outcome", "the queue of a packet isn't shown"),
-    "meta secmark": ("outcome", "security marks aren't shown"),
-    "ct secmark": ("outcome", "security marks aren't shown"),
-    "ct label": ("outcome", "labels aren't shown"),
-    "ip dscp": ("outcome", "packets leave with their old DSCP"),
-    "ip ecn": ("outcome", "packets leave with their old ECN"),
-    "tcp option maxseg size": ("outcome", "packets leave with their old segment size"),
-    "ether saddr": ("outcome", "link addresses aren't shown"),
-    "ether daddr": ("outcome", "link addresses aren't shown"),
-    "ct helper": ("guess", "setting"),
-    "ct expectation": ("guess", "setting"),
-    "ct timeout": ("guess", "setting"),
-    "ct zone": ("guess", "setting"),
+LEFT_OUT: dict[str, tuple[Grade, str]] = {
+    "meta nftrace": (Grade.SAME, "it changes no packet; --trace tells all"),
+    "ct event": (Grade.SAME, "it changes no packet"),
+    "meta priority": (Grade.OUTCOME, "the queue of a packet isn't shown"),
+    "meta secmark": (Grade.OUTCOME, "security marks aren't shown"),
+    "ct secmark": (Grade.OUTCOME, "security marks aren't shown"),
+    "ct label": (Grade.OUTCOME, "labels aren't shown"),
+    "ip dscp": (Grade.OUTCOME, "packets leave with their old DSCP"),
+    "ip ecn": (Grade.OUTCOME, "packets leave with their old ECN"),
+    "tcp option maxseg size": (Grade.OUTCOME, "packets leave with their old segment size"),
+    "ether saddr": (Grade.OUTCOME, "link addresses aren't shown"),
+    "ether daddr": (Grade.OUTCOME, "link addresses aren't shown"),
+    "ct helper": (Grade.GUESS, "setting"),
+    "ct expectation": (Grade.GUESS, "setting"),
+    "ct timeout": (Grade.GUESS, "setting"),
+    "ct zone": (Grade.GUESS, "setting"),
 }
 
 # Words of nft(8) that nftrun hasn't

@@ -5,6 +5,7 @@ from dataclasses import dataclass, replace
 from typing import TYPE_CHECKING, Callable, Container, Iterable, Iterator
 
 from .facts import CHAIN_HOOKS, LEFT_OUT, MARKS
+from .grades import Grade
 from .marks import Marks
 from .order import Order
 from .protocols import Protocols
@@ -139,11 +140,11 @@ class Fitter:
             what = f"table {table.family} {table.name}"
             bases = [it for it in table.chains.values() if it.head]
             if table.is_dormant:
-                self.changes.tell(table.token, "same", what, "left out", "it is dormant")
+                self.changes.tell(table.token, Grade.SAME, what, "left out", "it is dormant")
             elif table.family in ("ip6", "arp"):
-                self.changes.tell(table.token, "same", what, "left out", "it meets no IPv4 packet")
+                self.changes.tell(table.token, Grade.SAME, what, "left out", "it meets no IPv4 packet")
             elif table.family in ("bridge", "netdev") and not any(it.rules or it.policy == "drop" for it in bases):
-                self.changes.tell(table.token, "same", what, "left out", "it lets everything pass")
+                self.changes.tell(table.token, Grade.SAME, what, "left out", "it lets everything pass")
             elif table.family in ("bridge", "netdev"):
                 self.guess(table.token, what, "left out", "layer2")
             else:
@@ -178,7 +179,7 @@ class Fitter:
         inner.rules = [Rule(tokens, shown(tokens), rule.moment) for tokens in braced]
         table.chains[inner.name] = inner
         self.changes.tell(
-            rule.token, "same", f"{verdict.word} {{ .. }}", f"{verdict.word} {inner.name}", "a chain of its own"
+            rule.token, Grade.SAME, f"{verdict.word} {{ .. }}", f"{verdict.word} {inner.name}", "a chain of its own"
         )
         for index, one in enumerate(inner.rules, 1):
             one.counters_before = counters
@@ -238,7 +239,7 @@ class Fitter:
         if way == "refuse":
             self.changes.refuse(token, what, f"as asked: {name}=refuse")
         else:
-            self.changes.tell(token, "guess", what, to, self.assumptions.why(name, way))
+            self.changes.tell(token, Grade.GUESS, what, to, self.assumptions.why(name, way))
         return way
 
     @staticmethod
@@ -250,7 +251,7 @@ class Fitter:
     def table_text(self, table: Table) -> str:
         for name, it in table.objects.items():
             why = "rules count for themselves" if it.what == "counter" else "what it does is told where rules name it"
-            self.changes.tell(it.token, "same", f"{it.what} {name}", "left out", why)
+            self.changes.tell(it.token, Grade.SAME, f"{it.what} {name}", "left out", why)
         # sets first: what is guessed of their elements decides for the rules that have them
         sets = [line for found in table.sets.values() for line in self.sets.lines(table, found)]
         chains = [line for chain in table.chains.values() for line in self.chain_lines(table, chain)]
@@ -288,17 +289,17 @@ class Fitter:
         is_idle = not chain.rules and chain.policy != "drop"
         if head.hook not in CHAIN_HOOKS:
             if is_idle:
-                self.changes.tell(chain.token, "same", what, "no hook", "it lets everything pass")
+                self.changes.tell(chain.token, Grade.SAME, what, "no hook", "it lets everything pass")
             else:
                 self.guess(chain.token, what, "no hook", "layer2")
             return []
         if head.type == "nat" and head.hook == "input":
             if is_idle:
-                self.changes.tell(chain.token, "same", what, "no hook", "it has no rules")
+                self.changes.tell(chain.token, Grade.SAME, what, "no hook", "it has no rules")
             else:
                 self.changes.tell(
                     chain.token,
-                    "outcome",
+                    Grade.OUTCOME,
                     what,
                     "no hook",
                     "packets to the box keep their source, and its counters stay; what is forwarded doesn't meet it",
@@ -307,7 +308,7 @@ class Fitter:
         kind = head.type
         if kind == "route":
             self.changes.tell(
-                chain.token, "same", what, f"type filter hook {head.hook}", "nftrun runs no chain of output"
+                chain.token, Grade.SAME, what, f"type filter hook {head.hook}", "nftrun runs no chain of output"
             )
             kind = "filter"
         if kind not in ("filter", "nat"):

@@ -7,6 +7,7 @@ from .assumptions import ASSUMPTIONS
 from .draft import Draft
 from .exits import EXITS, WITHOUT, keys_without
 from .facts import LONGEST_KEY, TYPES, assumption_of
+from .grades import Grade
 from .matches import Matches, rules_text, shown
 from .numbers import holds, name_of, range_of, spell_number, spell_part, width_of
 from .ports import OTHERS, PORTS, most_hold
@@ -136,7 +137,7 @@ class JoinedKeys:
             self.draft.put_spelled(ways[0][0].text, names, plain=all(parts_are_plain(key, kinds) for key in keys))
             return
         self.draft.tell(
-            "same",
+            Grade.SAME,
             "a rule for each way" if ways else self.draft.never(),
             "nftrun has no joined keys with ranges, or of more than 128 bits",
         )
@@ -164,7 +165,7 @@ class JoinedKeys:
     def without(self, index: int, name: str, keys: Sequence[Key]) -> list[Key]:
         why_never = self.matches.unread.why_never(name)
         if why_never:
-            self.draft.tell("same", self.draft.never(), why_never)
+            self.draft.tell(Grade.SAME, self.draft.never(), why_never)
             self.draft.put(self.draft.never())
             return [key[:index] + key[index + 1 :] for key in keys]
         fact, assumption = self.matches.unread.fact_of(name), assumption_of(name)
@@ -173,7 +174,7 @@ class JoinedKeys:
             self.draft.put(fact.needs)
         if fact is not None and not fact.assumption:
             kept = [key for key in keys if holds(fact.value, "", key[index], "32", fact.words)]
-            self.draft.tell("same", f"without {name}", fact.why)
+            self.draft.tell(Grade.SAME, f"without {name}", fact.why)
         else:
             assumption = fact.assumption or assumption if fact else assumption
             way = self.draft.way(assumption)
@@ -274,7 +275,7 @@ class JoinedKeys:
         if len(keys_of) > 1 and overlap(all_keys, [TYPES[it] for it in names]):
             raise NotFitted("a map with joined keys that overlap")
         self.draft.tell(
-            "same",
+            Grade.SAME,
             rules_text(len(ways)) if ways else self.draft.never(),
             "nftrun has no maps over joined keys"
             if ways

@@ -8,6 +8,7 @@ from .connections import IN_ANY_DIRECTION, INVALID, are_known, is_state
 from .draft import Draft
 from .exits import EXITS
 from .facts import FIELD_WIDTHS, KNOWN, MARKS, TYPES, assumption_of
+from .grades import Grade
 from .joined import JoinedKeys, Then
 from .matches import Matches, flag_names, rules_text, shown
 from .numbers import constant_number, holds, spell_part, usual_element
@@ -73,7 +74,7 @@ class Maps:
             self.draft.fitter.added_to
         ):
             why = "the map lists nothing, and what rules add to it isn't kept"
-        self.draft.tell("same", self.draft.never(), why)
+        self.draft.tell(Grade.SAME, self.draft.never(), why)
         self.draft.die()
 
     # verdicts
@@ -164,7 +165,7 @@ class Maps:
                 raise NotFitted("ct state in a map, before connections are looked for and behind that, or untracked")
             chosen = ([it for it in named if is_state(INVALID, it)] or rest)[:1]
             why = "before connections are looked for Linux reads ct state as invalid"
-        self.draft.tell("same", verdict_text(chosen[0].verdict) if chosen else self.draft.never(), why)
+        self.draft.tell(Grade.SAME, verdict_text(chosen[0].verdict) if chosen else self.draft.never(), why)
         self.draft.split([self.ending(it) for it in chosen])
 
     def catch_all(self, name: str, kind: str, named: Sequence[Element], rest: Element, text: str) -> None:
@@ -177,7 +178,7 @@ class Maps:
         )
         ways = [[self.draft.piece(text, "end")], behind] if named else [behind]
         to = f"{rules_text(len(ways))}, the last one with {behind[0].text}"
-        self.draft.tell("same", to, "nftrun has no `*` in maps")
+        self.draft.tell(Grade.SAME, to, "nftrun has no `*` in maps")
         self.draft.split(ways, [name])
 
     def choose_known(self, name: str, elements: Sequence[Element]) -> None:
@@ -193,14 +194,14 @@ class Maps:
             return
         why_never = self.matches.unread.why_never(name)
         if why_never:
-            self.draft.tell("same", self.draft.never(), why_never)
+            self.draft.tell(Grade.SAME, self.draft.never(), why_never)
             self.draft.die()
             return
         fact, assumption = self.matches.unread.fact_of(name), assumption_of(name)
         self.matches.unread.keep_header(name)
         chosen = self.known_elements(name, elements) if fact is not None or name in FIELD_WIDTHS else []
         if fact is not None and not fact.assumption and not self.matches.unread.writers(name):
-            self.draft.tell("same", verdict_text(chosen[0].verdict) if chosen else self.draft.never(), fact.why)
+            self.draft.tell(Grade.SAME, verdict_text(chosen[0].verdict) if chosen else self.draft.never(), fact.why)
             if fact.needs:
                 self.draft.put(fact.needs)
         else:
@@ -245,7 +246,8 @@ class Maps:
             text = self.matches.type_text(fields[0], self.matches.type_words(it.key[0]), "", None)
             if text != self.draft.never():
                 ways.append([self.draft.piece(text), *self.ending(it)])
-        self.draft.tell("same", rules_text(len(ways)) if ways else self.draft.never(), "the addresses of the box file")
+        to = rules_text(len(ways)) if ways else self.draft.never()
+        self.draft.tell(Grade.SAME, to, "the addresses of the box file")
         self.draft.split(ways)
 
     def choose_masked(self, left: Calculation, elements: Sequence[Element]) -> None:
@@ -261,7 +263,7 @@ class Maps:
                 ]
                 for it in elements
             ]
-            self.draft.tell("same", rules_text(len(ways)), "a mask before a map")
+            self.draft.tell(Grade.SAME, rules_text(len(ways)), "a mask before a map")
             self.draft.split(ways)
             return
         values = self.draft.fitter.marks.values.get(name)
@@ -280,7 +282,7 @@ class Maps:
             if found
             else self.draft.never()
         )
-        self.draft.tell("same", text, why)
+        self.draft.tell(Grade.SAME, text, why)
         if found:
             self.draft.put(text, "end", [name])
         else:

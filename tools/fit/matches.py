@@ -9,6 +9,7 @@ from .draft import Draft
 from .dynamic import Dynamic
 from .exits import EXITS, Exits, holds_without
 from .facts import BITS, KNOWN, MARKS, NEVER_IN_IPV4, SHORT, TCP_FLAGS, TYPES, WORDS, assumption_of, first_word
+from .grades import Grade
 from .network import Network, spelled_networks
 from .numbers import (
     bits_named,
@@ -75,7 +76,7 @@ class Matches:
     def is_in_ipv4(self, selector: Selector) -> bool:
         if first_word(selector.name) not in NEVER_IN_IPV4:
             return True
-        self.draft.tell("same", self.draft.never(), "no IPv4 packet has that header")
+        self.draft.tell(Grade.SAME, self.draft.never(), "no IPv4 packet has that header")
         self.draft.die()
         return False
 
@@ -87,7 +88,7 @@ class Matches:
             return
         why_never = self.unread.why_never(name)
         if why_never:
-            self.draft.tell("same", self.draft.never(), why_never)
+            self.draft.tell(Grade.SAME, self.draft.never(), why_never)
             self.draft.die()
             return
         if name == "ct protocol":
@@ -112,7 +113,7 @@ class Matches:
 
     def tell_drawn(self, way: str | None, to: str) -> None:
         if way is None:
-            self.draft.tell("same", to, "there is one number alone")
+            self.draft.tell(Grade.SAME, to, "there is one number alone")
         else:
             self.draft.guess("random", way, to)
 
@@ -159,14 +160,14 @@ class Matches:
         words = self.type_words(right)
         if not by_interface:
             text = self.type_text(field, words, operator, None)
-            self.draft.tell("same", text, "the addresses of the box file")
+            self.draft.tell(Grade.SAME, text, "the addresses of the box file")
             self.draft.put(text)
             return
         ways = [
             [self.draft.piece(f'iifname "{name}"'), self.draft.piece(self.type_text(field, words, operator, name))]
             for name in network.names()
         ]
-        self.draft.tell("same", f"{rules_text(len(ways))}, one for each interface", "the addresses of the box file")
+        self.draft.tell(Grade.SAME, f"{rules_text(len(ways))}, one for each interface", "the addresses of the box file")
         self.draft.split(ways)
 
     def type_text(self, field: str, words: Sequence[str], operator: str, name: str | None) -> str:
@@ -194,7 +195,7 @@ class Matches:
             elif not wants:
                 ways.append([self.draft.piece(f'iifname "{name}"')])
         self.draft.tell(
-            "same",
+            Grade.SAME,
             f"{rules_text(len(ways))}, one for each interface" if ways else self.draft.never(),
             "by the best route of each address, as the box file has them",
         )
@@ -344,7 +345,7 @@ class Matches:
             why = "none of them"
             if kind == "ct_status":
                 why += "; so nftrun reads it, nft(8) would compare the whole value"
-            self.draft.tell("same", text, why)
+            self.draft.tell(Grade.SAME, text, why)
             self.draft.put(text)
         elif operator == "!=" and (kind == "ct_status" or len(words) > 1):
             self.match_unequal(name, words)
@@ -363,7 +364,7 @@ class Matches:
         meant = f"{name} != {{ {', '.join(words)} }}" if name == "ct state" else f"{name} ! {','.join(words)}"
         why = "nft(8) compares with the whole value, so it always holds; nftrun would read `none of them`,"
         why += f" which nft(8) spells `{meant}`"
-        self.draft.tell("same", to, why)
+        self.draft.tell(Grade.SAME, to, why)
         self.draft.put(to)
 
     def match_unknown_status(self, operator: str, words: Sequence[str]) -> None:
@@ -436,11 +437,11 @@ class Matches:
             for it in dict.fromkeys(values)
         ]
         if operator == "!=":
-            self.draft.tell("same", " ".join(texts), "one after the other")
+            self.draft.tell(Grade.SAME, " ".join(texts), "one after the other")
             for text in texts:
                 self.draft.put(text)
         else:
-            self.draft.tell("same", "a rule for each value", "a mask before a list")
+            self.draft.tell(Grade.SAME, "a rule for each value", "a mask before a list")
             self.draft.split([[self.draft.piece(it)] for it in texts])
 
     def match_order_of_flags(self, mask: int, operator: str, right: Expression) -> None:
@@ -456,7 +457,7 @@ class Matches:
             if found
             else self.draft.never()
         )
-        self.draft.tell("same", text, "all values for which it holds")
+        self.draft.tell(Grade.SAME, text, "all values for which it holds")
         self.draft.put(text)
 
     def match_mark(self, name: str, mask: int, operator: str, right: Expression) -> None:
@@ -470,11 +471,11 @@ class Matches:
         found = [it for it in sorted(values) if answers[it]]
         why = f"of the marks that rules write ({', '.join(map(hex, sorted(values)))}) these; each mark begins at 0"
         if not found:
-            self.draft.tell("same", self.draft.never(), why)
+            self.draft.tell(Grade.SAME, self.draft.never(), why)
             self.draft.die()
             return
         text = f"{name} {{ {', '.join(map(hex, found))} }}"
-        self.draft.tell("same", text, why)
+        self.draft.tell(Grade.SAME, text, why)
         self.draft.put(text, "match", [name])
 
     def match_masked_address(self, name: str, mask: Expression, operator: str, right: Expression) -> None:
@@ -492,12 +493,12 @@ class Matches:
         is_not = operator == "!="
         if base & ~number & 0xFFFFFFFF:
             to = "always" if is_not else self.draft.never()
-            self.draft.tell("same", to, "the value has bits outside of the mask")
+            self.draft.tell(Grade.SAME, to, "the value has bits outside of the mask")
             if not is_not:
                 self.draft.die()
             return
         text = f"{name} {'!= ' if is_not else ''}{IPv4Address(base)}/{length}"
-        self.draft.tell("same", text, "a prefix")
+        self.draft.tell(Grade.SAME, text, "a prefix")
         self.draft.put(text)
 
     def match_masked_state(self, name: str, mask: Expression, operator: str, right: Expression) -> None:
@@ -513,7 +514,7 @@ class Matches:
             if self.connections.match_early_state("" if operator == "!=" else "!", mask):
                 return
         text = f"{name} {','.join(words)}" if operator == "!=" else " ".join(f"{name} != {word}" for word in words)
-        self.draft.tell("same", text, "one of them" if operator == "!=" else "none of them")
+        self.draft.tell(Grade.SAME, text, "one of them" if operator == "!=" else "none of them")
         self.draft.put(text)
 
     def match_masked_other(self, name: str, mask: int, operator: str, right: Expression) -> None:
@@ -524,7 +525,7 @@ class Matches:
             if answer is None:
                 raise NotFitted("a value that isn't known")
             to = "left out, as it always holds" if answer else self.draft.never()
-            self.draft.tell("same", to, "nftrun takes no fragments")
+            self.draft.tell(Grade.SAME, to, "nftrun takes no fragments")
             if not answer:
                 self.draft.die()
             return

@@ -7,6 +7,7 @@ from typing import TYPE_CHECKING, Sequence
 
 from .expressions import as_number
 from .facts import PRIORITIES
+from .grades import Grade
 from .tree import Bound, NotFitted, Offload, Translation, selectors_in
 
 if TYPE_CHECKING:
@@ -157,7 +158,7 @@ class Order:
             names = ", ".join(it.name for it in group)
             self.fitter.changes.tell(
                 group[-1].token,
-                "same",
+                Grade.SAME,
                 f"chains {names} of {hook} at priority {self.number(group[-1])}",
                 ", ".join(f"{it.name} at {self.shifted.get(it, self.number(it))}" for it in group),
                 "Linux runs the one first that came last, nftrun the one that is first in the text",
@@ -175,7 +176,7 @@ class Order:
             elif not band_of[it].low <= number <= band_of[it].high:
                 why = "Linux runs it before translation, as it came after a chain of type nat; nftrun would behind"
             what = f"chain {it.name} at priority {number}"
-            self.fitter.changes.tell(it.token, "same", what, f"at {self.shifted[it]}", why)
+            self.fitter.changes.tell(it.token, Grade.SAME, what, f"at {self.shifted[it]}", why)
 
 
 def needs_connections(rule: Rule) -> bool:

@@ -7,6 +7,7 @@ from typing import TYPE_CHECKING, List, Tuple
 from .draft import MOST_LINES, Draft
 from .effects import Effects
 from .facts import KNOWN, MARKS, NEVER_IN_IPV4, first_word
+from .grades import Grade
 from .joined import JoinedKeys
 from .maps import Maps
 from .matches import Matches
@@ -74,8 +75,8 @@ class RuleFitter:
         except (NotFitted, RecursionError) as fault:
             return self.not_fitted(str(fault) if isinstance(fault, NotFitted) else "expressions nested too deeply")
         for it in self.draft.told.list:
-            if self.draft.never_runs and it.grade != "same":
-                it = replace(it, grade="same", why="nftrun runs no chain of output")
+            if self.draft.never_runs and it.grade != Grade.SAME:
+                it = replace(it, grade=Grade.SAME, why="nftrun runs no chain of output")
             self.fitter.changes.list.append(it)
         warnings = self.fitter.changes.warnings
         warnings += [it for it in self.draft.told.warnings if it not in warnings]
@@ -84,7 +85,7 @@ class RuleFitter:
     def not_fitted(self, why: str) -> list[Line]:
         text, never = self.rule.text, self.draft.never()
         if self.draft.never_runs:
-            self.fitter.changes.tell(self.rule.token, "same", text, never, "nftrun runs no chain of output")
+            self.fitter.changes.tell(self.rule.token, Grade.SAME, text, never, "nftrun runs no chain of output")
         else:
             self.fitter.changes.refuse(self.rule.token, text, why)
         return [(never, ())]
@@ -120,7 +121,7 @@ class RuleFitter:
         if self.draft.before:
             why = "the first does what is done once, and a packet meets one of the others"
         why += "; their counters are to be added"
-        self.fitter.changes.tell(self.rule.token, "same", "the rule", f"{number} rules", why)
+        self.fitter.changes.tell(self.rule.token, Grade.SAME, "the rule", f"{number} rules", why)
 
     @staticmethod
     def start_once(lines: List[List[Piece]]) -> None:
@@ -208,7 +209,7 @@ class RuleFitter:
         if isinstance(it.what, Counter) and lines and not any(piece.kind == "end" for piece in lines[0]):
             self.effects.fit_counter(it.what)
         else:
-            self.draft.tell("same", "left out", NO_PACKET)
+            self.draft.tell(Grade.SAME, "left out", NO_PACKET)
 
     def never_from_the_start(self) -> bool:
         """A rule whose leading matches have one that no packet passes: nothing of it is met."""
@@ -231,7 +232,7 @@ class RuleFitter:
                 self.effects.fit_verdict(it.what)
                 break
         to = " ".join(it.text for it in draft.lines[0])
-        draft.told.tell(self.rule.token, "same", self.rule.text, to, "no IPv4 packet meets it")
+        draft.told.tell(self.rule.token, Grade.SAME, self.rule.text, to, "no IPv4 packet meets it")
         return True
 
     def count_counters(self) -> None:

@@ -6,6 +6,7 @@ from typing import TYPE_CHECKING, Sequence
 
 from .expressions import ExpressionReader
 from .facts import LONGEST_KEY, TYPES, WIDTHS, WORDS
+from .grades import Grade
 from .numbers import name_of, spell_part, width_of
 from .profile import takes
 from .scanner import spelled
@@ -112,7 +113,8 @@ class Sets:
     def lines(self, table: Table, found: Set) -> list[str]:
         rates = self.fitter.rates
         if rates is not None and rates.replays(table, found.name):
-            self.fitter.changes.tell(found.token, "outcome", f"set {found.name}", "left out", "what it has is replayed")
+            what = f"set {found.name}"
+            self.fitter.changes.tell(found.token, Grade.OUTCOME, what, "left out", "what it has is replayed")
             return []
         try:
             return self.lines_of(table, found)
@@ -127,15 +129,16 @@ class Sets:
         if not self.is_foreign(found):
             self.tell_of_time(table, found)
         if not self.is_plain(found):
-            changes.tell(found.token, "same", f"{found.word} {found.name}", "left out", self.why_left_out(table, found))
+            what = f"{found.word} {found.name}"
+            changes.tell(found.token, Grade.SAME, what, "left out", self.why_left_out(table, found))
             return []
         if found.counts or any("counter" in it.extras for it in found.elements):
-            changes.tell(found.token, "outcome", f"counters of {found.name}", "none", "they aren't shown")
+            changes.tell(found.token, Grade.OUTCOME, f"counters of {found.name}", "none", "they aren't shown")
         by_name = self.by_name(found)
         if by_name:
             changes.tell(
                 found.token,
-                "same",
+                Grade.SAME,
                 f"{found.word} {found.name} of indices",
                 "of names",
                 "names compare alike, and ask for no interface of the box",
@@ -177,7 +180,7 @@ class Sets:
         elif (table.family, table.name, found.name) not in self.fitter.added_to and (foreign or found.timeout):
             changes.tell(
                 found.token,
-                "same",
+                Grade.SAME,
                 f"flags {','.join(foreign)} of {found.name}" if foreign else f"timeout of {found.name}",
                 "none",
                 "no rule adds to it, and no element runs out",

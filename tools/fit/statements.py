@@ -6,6 +6,7 @@ from typing import Callable, NoReturn
 
 from .expressions import ExpressionReader
 from .facts import VERDICTS
+from .grades import Grade
 from .tree import (
     Bound,
     Calculation,
@@ -170,7 +171,7 @@ class RuleReader(ExpressionReader):
     def read_last(self) -> LeftOut:
         while self.has("used", "never") or self.peek().kind == "time":
             self.take()
-        return LeftOut("outcome", "when the last packet came isn't shown")
+        return LeftOut(Grade.OUTCOME, "when the last packet came isn't shown")
 
     # what ends a rule
 
@@ -198,7 +199,7 @@ class RuleReader(ExpressionReader):
         operands = [self.operand()]
         if self.skip("device"):
             operands.append(self.operand())
-        return LeftOut("outcome", "the copy isn't shown, nor what it counts in postrouting", tuple(operands))
+        return LeftOut(Grade.OUTCOME, "the copy isn't shown, nor what it counts in postrouting", tuple(operands))
 
     def read_flow(self) -> Offload:
         self.take("word", "add", "offload")

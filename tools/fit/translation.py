@@ -6,6 +6,7 @@ from typing import Sequence
 
 from .draft import Draft
 from .facts import TYPES
+from .grades import Grade
 from .joined import JoinedKeys, Then
 from .maps import Maps
 from .matches import Matches, rules_text, shown
@@ -43,7 +44,7 @@ class Translations:
 
     def fit_nat(self, it: Translation) -> None:
         if it.family == "ip6" or isinstance(it.address, One) and it.address.value.kind == "six":
-            self.draft.tell("same", self.draft.never(), "it translates IPv6 packets")
+            self.draft.tell(Grade.SAME, self.draft.never(), "it translates IPv6 packets")
             self.draft.die()
             return
         if any(one is not None and not isinstance(one, PARTS) for one in (it.address, it.ports)):
@@ -52,7 +53,7 @@ class Translations:
             self.translate_prefixes(it)
             return
         if it.flags:
-            self.draft.tell("outcome", "left out", "nftrun chooses ports in its own way", what=" ".join(it.flags))
+            self.draft.tell(Grade.OUTCOME, "left out", "nftrun chooses ports in its own way", what=" ".join(it.flags))
         if it.kind in ("snat", "dnat") and it.address is None:
             it = replace(it, address=self.address_of_rule(it.kind))
         lookup = it.address if isinstance(it.address, Lookup) else it.ports
@@ -90,7 +91,7 @@ class Translations:
         listed = ", ".join(
             f"{spell_number(before, 'ipv4_addr')} : {spell_number(after, 'ipv4_addr')}" for before, after in pairs
         )
-        self.draft.tell("same", f"a map of {len(pairs)} addresses", "each address has its own")
+        self.draft.tell(Grade.SAME, f"a map of {len(pairs)} addresses", "each address has its own")
         self.draft.put(f"{it.kind}{self.to()}{key.name} map {{ {listed} }}", "end")
 
     def address_of_rule(self, kind: str) -> One:
@@ -101,7 +102,7 @@ class Translations:
             if not isinstance(what, Match) or what.left != Selector(name) or what.operator not in ("", "=="):
                 continue
             if isinstance(what.right, One) and what.right.value.kind == "address":
-                self.draft.tell("same", f"to {what.right.value.text}", f"the rule asks for this {name}")
+                self.draft.tell(Grade.SAME, f"to {what.right.value.text}", f"the rule asks for this {name}")
                 return what.right
         raise NotFitted("translation of the port alone, where the rule doesn't ask for one address")
 
@@ -183,7 +184,7 @@ class Translations:
                 for one in elements
             ]
             self.draft.tell(
-                "same",
+                Grade.SAME,
                 rules_text(len(ways)) if ways else self.draft.never(),
                 "nftrun has no maps of ports, and none of both",
             )

@@ -7,6 +7,8 @@ from typing import TYPE_CHECKING, Iterator, Sequence, Union
 if TYPE_CHECKING:
     from toolbox.lexer import Token
 
+    from .grades import Grade
+
 # Values
 
 
@@ -249,7 +251,7 @@ class Offload:
 class LeftOut:
     """A statement that isn't needed: how much that matters, and why; its operands are tested all the same."""
 
-    grade: str
+    grade: Grade
     why: str
     operands: tuple[Expression, ...] = ()
 

@@ -8,6 +8,7 @@ from .connections import IN_ANY_DIRECTION
 from .draft import Draft
 from .exits import OF_EXITS, WITHOUT
 from .facts import BY_ROUTE, FIELD_WIDTHS, KNOWN, MAY_LACK, OPTIONS, OWNERS, Fact, assumption_of, first_word
+from .grades import Grade
 from .numbers import holds, share
 from .tree import Elements, Expression, Mapping, Missing, Named, NotFitted, One, Selector, Value, selectors_in
 
@@ -62,7 +63,7 @@ class Unread:
 
     def tell_fact(self, fact: Fact, answer: bool) -> None:
         to = (fact.needs or "left out, as it always holds") if answer else self.draft.never()
-        self.draft.tell("same", to, fact.why)
+        self.draft.tell(Grade.SAME, to, fact.why)
         if fact.needs:
             self.draft.put(fact.needs)
         if not answer:
@@ -74,9 +75,9 @@ class Unread:
             return False
         part = share(operator, right, str(FIELD_WIDTHS[name]))
         if part == 1:
-            self.draft.tell("same", "left out, as it always holds", "for each value of the field")
+            self.draft.tell(Grade.SAME, "left out, as it always holds", "for each value of the field")
         elif part == 0:
-            self.draft.tell("same", self.draft.never(), "for no value of the field")
+            self.draft.tell(Grade.SAME, self.draft.never(), "for no value of the field")
             self.draft.die()
         return part in (0, 1)
 
@@ -110,7 +111,7 @@ class Unread:
         for name in dict.fromkeys(it.name for it in selectors_in(operands)):
             why_never = self.why_never(name)
             if why_never:
-                self.draft.tell("same", self.draft.never(), why_never)
+                self.draft.tell(Grade.SAME, self.draft.never(), why_never)
                 self.draft.die()
                 return
             if name.startswith(MAY_LACK):

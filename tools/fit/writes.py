@@ -7,6 +7,7 @@ from typing import Sequence
 from .assumptions import ASSUMPTIONS
 from .draft import Draft
 from .facts import KNOWN, LEFT_OUT, MARKS, NEVER_IN_IPV4, TYPES, assumption_of, first_word
+from .grades import Grade
 from .joined import JoinedKeys
 from .maps import Maps
 from .matches import Matches, shown
@@ -57,7 +58,7 @@ class Writes:
         if name in OBJECTS:
             self.find_objects(name, operand)
         grade, why = LEFT_OUT[name]
-        if grade == "guess":
+        if grade == Grade.GUESS:
             way = self.draft.way(why)
             self.draft.guess(why, way, "left out")
         elif name in self.draft.fitter.asked:
@@ -134,7 +135,7 @@ class Writes:
             text = f"{name} set {used[0]} map {{ {', '.join(f'{a:#x} : {b:#x}' for a, b in results.items())} }}"
         else:
             text = f"{name} set {results[0]:#x}"
-        self.draft.tell("same", text, "for each mark that rules write; each mark begins at 0")
+        self.draft.tell(Grade.SAME, text, "for each mark that rules write; each mark begins at 0")
         self.draft.put(text, "mark", used)
 
     def set_by_map(self, name: str, operand: Lookup) -> None:

@@ -8,7 +8,6 @@ from typing import TYPE_CHECKING
 
 from toolbox.captures import BROADCAST, LINUX_SLL2, MULTICAST, OTHER_STATION, SENT_BY_US, interface_of
 from toolbox.commands import plural
-from toolbox.flows import BEGUN, OWN
 from toolbox.packets import TCP, UDP, address_text, destination_end
 
 if TYPE_CHECKING:
@@ -82,13 +81,14 @@ def about_flow(why: Why) -> list[str]:
     flows, flow, record = why.flows, why.flow, why.record
     if not flow:
         return []
-    first = flows.first[flow]
+    of = flows.all[flow]
+    first = of.first
     if why.wanted is not None and why.is_reply:
         return ["Linux gave this flow another external port than a run does, so the answer finds no connection: "
                 "nftrun align makes such a capture fit"]
-    if flows.is_marked(flow, OWN) or first and not flows.of[first]:
+    if of.is_own or first and not flows.of[first]:
         return ["it answers a packet of the box itself, which a run doesn't have: on Linux it is established"]
-    if flows.kind[flow] == TCP and not flows.is_marked(flow, BEGUN):
+    if of.kind == TCP and not of.has_begun:
         return ["its flow has no SYN in the capture, so it began before: on Linux it may be established, here it is "
                 "new"]
     answered = why.answered_flow() if why.key is not None else None

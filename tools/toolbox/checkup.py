@@ -8,7 +8,7 @@ from typing import TYPE_CHECKING, Iterator, Mapping
 from toolbox.captures import (
     BROADCAST, LINUX_SLL2, MULTICAST, OTHER_STATION, PROTOCOL_AT, TO_US, header_of, packet_at, records)
 from toolbox.commands import plural, read_text
-from toolbox.flows import BEGUN, MOST_READ, TRANSLATED, Flows
+from toolbox.flows import MOST_READ, Flows
 from toolbox.packets import TCP, address_text, identity
 from toolbox.wire import Clock, Mirror, has_wrong_checksum, jumps_of
 
@@ -287,8 +287,8 @@ class Checkup:
 
     def of_answers(self) -> Iterator[Finding]:
         flows = self.flows
-        begun = [flow for flow in flows.some() if flows.kind[flow] == TCP and flows.is_marked(flow, BEGUN)]
-        unanswered = sum(not flows.answered[flow] for flow in begun)
+        begun = [flow for flow in flows.some() if flow.kind == TCP and flow.has_begun]
+        unanswered = sum(not flow.answered for flow in begun)
         if len(begun) >= FEW_FLOWS and unanswered > 0.9 * len(begun):
             yield Finding("one direction", True, f"{unanswered} of {plural(len(begun), 'TCP flow')} without any answer",
                           "the other direction isn't in the capture, or isn't taken: capture on all interfaces "
@@ -296,7 +296,7 @@ class Checkup:
 
     def of_copies(self) -> Iterator[Finding]:
         flows = self.flows
-        translated = flows.marked(TRANSLATED)
+        translated = flows.translated()
         if self.link_type == LINUX_SLL2 and not flows.copies:
             yield Finding("no copies", False, "no outgoing copies in the capture",
                           "what Linux chose isn't known, so it can't be aligned: capture without -Q in", {})

@@ -6,7 +6,7 @@ from typing import TYPE_CHECKING, Iterator, Mapping
 
 from toolbox.checkup import MOST_LISTED, Finding
 from toolbox.commands import plural
-from toolbox.flows import ERROR, OWN, SIDE
+from toolbox.flows import ERROR
 from toolbox.packets import TCP, address_text
 from toolbox.replay import LOCAL, PASSED
 from toolbox.reports import Summary
@@ -31,7 +31,7 @@ def of_router(router: Router) -> Iterator[Finding]:
         yield Finding("routes" if way.is_routed_otherwise else "sent on", True,
                       f"{astray.count_text()} {way.text()}: {astray.records_text()}", f"the run isn't the router: "
                       f"{way.reason}", {"packets": astray.packets, "flows": len(astray.flows), "first": astray.first})
-    earlier = sum(router.of.kind[flow] != TCP for flow, is_earlier in router.earlier.items() if is_earlier)
+    earlier = sum(router.of.all[flow].kind != TCP for flow, is_earlier in router.earlier.items() if is_earlier)
     if earlier:
         yield Finding("began before", True, f"{plural(earlier, 'flow')} of UDP or ping with an answer first",
                       "as it seems they began before the capture: new at their first packet here, established on "
@@ -66,18 +66,19 @@ def of_new(delivered: Mapping[int, int]) -> Iterator[Finding]:
 
 def answered_by_box(flows: Flows) -> Counter[int]:
     """By flow how many packets came for the box itself, where the first answer is a copy of what it sent."""
-    answered = {flow for flow in flows.some() if flows.answered[flow] and not flows.of[flows.answered[flow]]}
-    return Counter(flow for flow, what in zip(flows.of, flows.role) if flow in answered and not what & (SIDE | ERROR))
+    answered = {flow.number for flow in flows.some() if flow.answered and not flows.of[flow.answered]}
+    return Counter(flow for flow, is_reply, part in zip(flows.of, flows.is_reply, flows.part)
+                   if flow in answered and not is_reply and part != ERROR)
 
 
 def kept_new(flows: Flows, replay: Replay) -> Counter[int]:
     """By flow how many packets a run delivers to the box itself, where it has no answer to them."""
     delivered: Counter[int] = Counter()
     answered: set[int] = set()
-    for record, (flow, what) in enumerate(zip(flows.of, flows.role)):
-        if not flow or what & ERROR or flows.is_marked(flow, OWN):
+    for record, (flow, is_reply, part) in enumerate(zip(flows.of, flows.is_reply, flows.part)):
+        if not flow or part == ERROR or flows.all[flow].is_own:
             continue
-        if what & SIDE and replay.outcomes[record] in (PASSED, LOCAL):
+        if is_reply and replay.outcomes[record] in (PASSED, LOCAL):
             answered.add(flow)
         elif replay.outcomes[record] == LOCAL:
             delivered[flow] += 1

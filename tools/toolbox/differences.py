@@ -244,7 +244,7 @@ class Groups:
         self.causes: dict[tuple[int, Made], tuple[Told, Told]] = {}
         self.flow_counts: Counter[str] = Counter()
         # of each flow its last group (from 1) and the kinds it is in; and what is in several groups
-        self.last, self.kinds = array("I", bytes(4 * len(flows.first))), bytearray(len(flows.first))
+        self.last, self.kinds = array("I", bytes(4 * len(flows.all))), bytearray(len(flows.all))
         self.several: set[tuple[int, int]] = set()
 
     def each(self) -> Iterator[tuple[int, bytes, Group]]:
@@ -310,4 +310,4 @@ class Groups:
         flows = self.flows_of
         if not flows.of[record]:
             return None
-        return inverse(flows.tuple_of(record)) if flows.side(record) else flows.tuple_of(record)
+        return inverse(flows.tuple_of(record)) if flows.is_reply[record] else flows.tuple_of(record)

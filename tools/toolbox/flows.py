@@ -7,7 +7,8 @@ what a first run made of it (`Flows.join`). Side 0 is that of the flow's first r
 from __future__ import annotations
 
 from array import array
-from typing import TYPE_CHECKING, Mapping, Tuple
+from enum import IntEnum
+from typing import TYPE_CHECKING, Mapping, NamedTuple
 
 from toolbox.captures import (
     ETHERNET, FILE_HEADER, IPV4, LINK_LENGTHS, LINUX_SLL2, PROTOCOL_AT, RECORD_HEADER, SENT_BY_US, TO_US, header_of,
@@ -18,15 +19,19 @@ from toolbox.packets import (
 if TYPE_CHECKING:
     from toolbox.boxes import Box
 
-# Of a record: its side, and what it is. An opener comes before any answer to its flow.
-SIDE, OPENER, SYN_ACK, ERROR = 1, 2, 4, 8
-# Of a flow. BEGUN: its beginning is in the capture. TRANSLATED, LEARNED: what Linux made of its tuple is another, is
-# known. SAW_SYN_ACK, ANSWERED_MIDWAY: of TCP, whether an answer came to a SYN, or to a flow without one. OWN: the box
-# began it itself. JOINED: its records are another flow's.
-BEGUN, TRANSLATED, LEARNED, SAW_SYN_ACK, ANSWERED_MIDWAY, OWN, JOINED = 1, 2, 4, 8, 16, 32, 64
 
-# A packet whose copy may come: its flow times two, and side; its tuple; its record
-Waiting = Tuple[int, bytes, int]
+class Part(IntEnum):
+    """What a record is to its flow. An opener comes before any answer to it; a SYN and ACK answers its SYN; an error is
+    one of ICMP about it."""
+
+    OTHER = 0
+    OPENER = 1
+    SYN_ACK = 2
+    ERROR = 3
+
+
+# of the columns, which hold plain numbers; a name of the module is found faster than one of an enum
+OTHER, OPENER, SYN_ACK, ERROR = Part.OTHER, Part.OPENER, Part.SYN_ACK, Part.ERROR
 
 MOST_READ = 160  # bytes of a record that are looked at: all headers, also those within an ICMP error
 WINDOW = 4096  # how many packets may come between one and its outgoing copy
@@ -36,25 +41,81 @@ SURELY_KEPT = 10
 FORGOTTEN = 30  # seconds after which Linux forgets the first kinds of connections
 
 
-class Flows:
-    """Of each record its flow (0: none), role, tuple and place in the file, 17 bytes a record; of each flow some 40
-    bytes; and the tuples.
+class Direction:
+    """One side of a flow. `is_known`: it is known how its packets leave."""
 
-    What is outside asks `side`, `is_error`, `is_marked` and `marked`: the bytes of `role` and `flags` are for the
-    passes over all records here and in `replay`. `of`, `role`, `seen` and `offset` go by the record's number (from 1),
-    `first`, `answered`, `acked`, `flags` and `kind` by the flow's. `seen` is the place of the record's tuple in
-    `tuples`; of an ICMP error the tuple of the answer to the datagram in it. `answered` is the record of the first
-    answer; `acked` the first record of the client behind a SYN and ACK. `copies` and `own` count outgoing copies, and
-    those that no packet came for: the box's own. `torn` tells whether the capture ends within a record."""
+    __slots__ = "flow", "is_reply", "is_known"
+
+    def __init__(self, flow: Flow, is_reply: bool) -> None:
+        self.flow, self.is_reply, self.is_known = flow, is_reply, False
+
+    @property
+    def other(self) -> Direction:
+        return self.flow.original if self.is_reply else self.flow.reply
+
+    def seen_from(self, is_reply: bool | int) -> Direction:
+        """This side of its flow for what is original to it, else the other."""
+        return self.other if is_reply else self
+
+
+class Flow:
+    """A flow: records that are numbered from 1, 0 where there is none. `first` is its first one, `answered` the first
+    answer, `acked` the client's first behind a SYN and ACK. `kind` is that of its tuples.
+
+    `has_begun`: its beginning is in the capture. `is_translated`, `is_learned`: what Linux made of its tuple is
+    another, is known. `saw_syn_ack`, `answered_midway`: of TCP, whether an answer came to a SYN, or to a flow without
+    one. `is_own`: the box began it itself. `is_joined`: its records are another flow's. `last` is its last second,
+    `begun_with` the number of its SYN, or -1."""
+
+    __slots__ = ("number", "kind", "first", "answered", "acked", "last", "begun_with", "original", "reply", "has_begun",
+                 "is_translated", "is_learned", "saw_syn_ack", "answered_midway", "is_own", "is_joined")
+
+    def __init__(self, number: int, kind: int, first: int, last: int, begun_with: int = -1) -> None:
+        self.number, self.kind, self.first, self.last, self.begun_with = number, kind, first, last, begun_with
+        self.answered = self.acked = 0
+        self.original, self.reply = Direction(self, False), Direction(self, True)
+        self.has_begun = self.is_translated = self.is_learned = self.saw_syn_ack = False
+        self.answered_midway = self.is_own = self.is_joined = False
+
+    def answer(self, record: int) -> None:
+        """Takes a record that turned out to be of the reply direction for an answer, if it is the first."""
+        if not 0 < self.answered <= record:
+            self.answered = record
+
+
+class Waiting(NamedTuple):
+    """A packet whose copy may come: its side of a flow (none of an error about none), its tuple and its record."""
+
+    direction: Direction | None
+    key: bytes
+    record: int
+
+
+class Begun(NamedTuple):
+    """A SYN: the flow that it began, and its tuple."""
+
+    flow: Flow
+    key: bytes
+
+
+class Flows:
+    """The flows of a capture, `all`, by their numbers (from 1; the first stands for none), and of each record its
+    flow's number, side, part, tuple and place in the file. A capture has 10^6 records and more, so what is known of
+    records stands in columns with one meaning each, 18 bytes a record.
+
+    `of`, `is_reply`, `part`, `seen` and `offset` go by the record's number (from 1). `seen` is the place of the
+    record's tuple in `tuples`; of an ICMP error the tuple of the answer to the datagram in it. `copies` and `own` count
+    outgoing copies, and those that no packet came for: the box's own. `torn` tells whether the capture ends within a
+    record."""
 
     def __init__(self, path: str, box: Box, use_copies: bool = True) -> None:
         header = header_of(path)
         self.path, self.link_type, self.aligned, self.order = path, header.link_type, header.aligned, header.order
         self.at = LINK_LENGTHS[header.link_type]
-        self.of, self.role, self.seen, self.offset = array("I", [0]), bytearray(1), array("I", [0]), array("Q", [0])
+        self.of, self.seen, self.offset = array("I", [0]), array("I", [0]), array("Q", [0])
+        self.is_reply, self.part = bytearray(1), bytearray(1)
         self.tuples = [bytes(13)]
-        self.first, self.answered, self.acked = array("I", [0]), array("I", [0]), array("I", [0])
-        self.flags, self.kind = bytearray(1), bytearray(1)
+        self.all = [Flow(0, 0, 0, 0)]
         self.copies = self.own = 0
         self.end = FILE_HEADER  # of the last whole record, in the file
         # an aligned capture still has the ports that Linux chose in its copies
@@ -64,31 +125,29 @@ class Flows:
 
     def number(self) -> int:
         """The greatest number of a flow; `join` leaves some without records."""
-        return len(self.first) - 1
+        return len(self.all) - 1
 
-    def some(self) -> list[int]:
-        """The numbers of the flows that have records."""
-        return [flow for flow in range(1, len(self.first)) if not self.flags[flow] & JOINED]
+    def some(self) -> list[Flow]:
+        """The flows that have records."""
+        return [flow for flow in self.all[1:] if not flow.is_joined]
 
-    def is_marked(self, flow: int, mark: int) -> bool:
-        """Whether a flow is so: BEGUN, TRANSLATED, LEARNED, OWN or another of these."""
-        return bool(self.flags[flow] & mark)
+    def learned(self) -> int:
+        """Of how many flows it is known what Linux made of their tuples."""
+        return sum(flow.is_learned for flow in self.all)
 
-    def marked(self, mark: int) -> int:
-        """How many flows are so."""
-        return sum(bool(known & mark) for known in self.flags)
+    def translated(self) -> int:
+        return sum(flow.is_translated for flow in self.all)
 
-    def side(self, record: int) -> int:
-        """1 of a record in the reply direction, else 0."""
-        return self.role[record] & SIDE
+    def begun_by_box(self) -> int:
+        return sum(flow.is_own for flow in self.all)
 
     def is_error(self, record: int) -> bool:
         """Whether a record is an ICMP error about its flow."""
-        return bool(self.role[record] & ERROR)
+        return self.part[record] == ERROR
 
     def without_beginning(self) -> int:
         """How many flows of TCP have no SYN in the capture, those aside that the box began."""
-        return sum(self.kind[flow] == TCP and not self.is_marked(flow, BEGUN | OWN) for flow in self.some())
+        return sum(flow.kind == TCP and not flow.has_begun and not flow.is_own for flow in self.some())
 
     def tuple_of(self, record: int) -> bytes:
         """The tuple of a record of a flow."""
@@ -102,33 +161,34 @@ class Flows:
 
     def answers_to_box(self) -> list[int]:
         """The records that answer packets of the box's own, which aren't in a run."""
-        return [record for record, flow in enumerate(self.of) if flow and self.flags[flow] & OWN]
+        return [record for record, flow in enumerate(self.of) if self.all[flow].is_own]
 
-    def join(self, joined: Mapping[int, int], errors: Mapping[int, int] | None = None) -> None:
-        """Makes one of two flows each: `joined` has of a flow the one (times two, and side) that its side 0 is.
-        `errors` has of records with ICMP errors the flow and side to which they belong."""
-        of, role, answered = self.of, self.role, self.answered
-        for number, value in dict(errors or {}).items():
-            of[number], role[number] = value >> 1, ERROR | value & SIDE
-            self.answer(value, number)
+    def join(self, joined: Mapping[int, Direction], errors: Mapping[int, Direction] | None = None) -> None:
+        """Makes one of two flows each: `joined` has by a flow's number the side of the other that its original one is.
+        `errors` has of records with ICMP errors the side to which they belong."""
+        of, part = self.of, self.part
+        for record, direction in dict(errors or {}).items():
+            part[record] = ERROR
+            self.put(record, direction)
         for flow in joined:
-            self.flags[flow] |= JOINED
-        for number in range(1, self.count + 1):
-            place = joined.get(of[number])
-            if place is None:
+            self.all[flow].is_joined = True
+        for record in range(1, self.count + 1):
+            original = joined.get(of[record])
+            if original is None:
                 continue
-            flow, what = place >> 1, role[number] ^ place & SIDE
-            of[number] = flow
-            role[number] = what & ~(OPENER | SYN_ACK) if what & SIDE else what
-            self.answer(2 * flow + (what & SIDE), number)
-        for number in range(1, self.count + 1):
-            if role[number] & OPENER and 0 < answered[of[number]] <= number:
-                role[number] &= ~OPENER  # what comes behind the answer opens nothing
+            direction = original.seen_from(self.is_reply[record])
+            if direction.is_reply and part[record] != ERROR:
+                part[record] = OTHER
+            self.put(record, direction)
+        for record in range(1, self.count + 1):
+            if part[record] == OPENER and 0 < self.all[of[record]].answered <= record:
+                part[record] = OTHER  # what comes behind the answer opens nothing
 
-    def answer(self, value: int, record: int) -> None:
-        """Takes a record that turned out to be of this flow (times two) and side for an answer, if it is the first."""
-        if value & SIDE and not 0 < self.answered[value >> 1] <= record:
-            self.answered[value >> 1] = record
+    def put(self, record: int, direction: Direction) -> None:
+        """Makes a record one of this side."""
+        self.of[record], self.is_reply[record] = direction.flow.number, direction.is_reply
+        if direction.is_reply:
+            direction.flow.answer(record)
 
 
 class Reader:
@@ -139,25 +199,24 @@ class Reader:
         self.use_copies = use_copies and flows.link_type == LINUX_SLL2
         self.limits, self.indices = box.limits(), box.index_bytes()
         self.find: dict[bytes, int] = {}  # by tuple its place in `tuples`
-        self.left: dict[bytes, int] = {}  # by tuple of a copy the flow and side that left so
-        self.owner = array("I", [0])  # by that place the flow times two, and side
-        # by the flow: its last second, its SYN's number, the sides of which it is known how they leave (1, 2)
-        self.last, self.begun_with, self.learned = array("I", [0]), array("q", [-1]), bytearray(1)
+        self.left: dict[bytes, Direction] = {}  # by tuple of a copy the side that left so
+        self.owner: list[Direction | None] = [None]  # by that place the side whose tuple it is
         self.young: dict[bytes, tuple[Waiting, ...]] = {}
         self.old: dict[bytes, tuple[Waiting, ...]] = {}  # by identity: packets whose copies may come, as `young`
         self.waiting = 0
-        self.syns: dict[int, tuple[int, bytes]] = {}  # by the number that acknowledges them, as `old_syns`
-        self.old_syns: dict[int, tuple[int, bytes]] = {}
-        self.acknowledged: dict[int, int] = {}  # of a flow that begins with a SYN and ACK what that acknowledges
+        self.syns: dict[int, Begun] = {}  # by the number that acknowledges them, as `old_syns`
+        self.old_syns: dict[int, Begun] = {}
+        self.acknowledged: dict[int, int] = {}  # by a flow that begins with a SYN and ACK what that acknowledges
         self.sweep_at = 1 << 16
 
     def read(self) -> None:
         flows, number, smallest, latest = self.flows, 0, self.at + 28, 0
-        of, role, seen, indices, enter, leave = flows.of, flows.role, flows.seen, self.indices, self.enter, self.leave
+        of, is_reply, part, seen = flows.of, flows.is_reply, flows.part, flows.seen
+        indices, enter, leave = self.indices, self.enter, self.leave
         protocol_at, is_sll2, is_ethernet = (
             PROTOCOL_AT[flows.link_type], flows.link_type == LINUX_SLL2, flows.link_type == ETHERNET)
         for piece, base, starts, headers in pieces(flows.path):
-            for numbers in (of, role, seen):
+            for numbers in (of, is_reply, part, seen):
                 numbers.extend(bytes(len(starts)))
             flows.offset.extend([base + start for start in starts])
             if starts:
@@ -177,65 +236,64 @@ class Reader:
                         continue
                 elif is_ethernet and data[0] & 1:
                     continue
-                value, role[number], seen[number] = enter(number, latest, data)
-                of[number] = value >> 1
+                came, part[number], seen[number] = enter(number, latest, data)
+                if came is not None:
+                    of[number], is_reply[number] = came.flow.number, came.is_reply
 
-    def place_of(self, key: bytes, value: int) -> int:
-        """The place of a tuple, which from now on is that of this flow and side."""
+    def place_of(self, key: bytes, direction: Direction | None) -> int:
+        """The place of a tuple, which from now on is that of this side."""
         place = self.find.get(key)
         if place is None:
             place = self.find[key] = len(self.owner)
             self.flows.tuples.append(key)
-            self.owner.append(value)
+            self.owner.append(direction)
         else:
-            self.owner[place] = value
+            self.owner[place] = direction
         return place
 
     # Packets that enter
 
-    def enter(self, number: int, seconds: int, data: bytes) -> tuple[int, int, int]:
-        """The flow of an entering packet (times two, and its side), its role, and its tuple's place."""
+    def enter(self, number: int, seconds: int, data: bytes) -> tuple[Direction | None, int, int]:
+        """The side of a flow of an entering packet, what it is to that, and its tuple's place."""
         key = tuple_at(data, self.at)
         if key is None:
             return self.enter_error(number, data)
-        flows, is_tcp, flags, last = self.flows, key[12] == TCP, 0, self.last
+        is_tcp, flags = key[12] == TCP, 0
         if is_tcp:
             flags = data[self.at + 4 * (data[self.at] & 15) + 13] & (FIN | SYN | RST | ACK)
         place = self.find.get(key)
-        value = (self.owner[place] if place else 0) or self.by_inverse(key)
-        if value and (flags == SYN or seconds - last[value >> 1] >= self.limits[key[12]]):
-            value = self.still(value, seconds, key, flags, data)
+        came = (self.owner[place] if place else None) or self.by_inverse(key)
+        if came and (flags == SYN or seconds - came.flow.last >= self.limits[key[12]]):
+            came = self.still(came, seconds, key, flags, data)
         if flags & (SYN | ACK) == SYN | ACK:
-            value = self.by_handshake(value, key, data)
-        if not value:
-            value = self.begin(number, seconds, key, flags, data)
+            came = self.by_handshake(came, key, data)
+        if not came:
+            came = self.begin(number, seconds, key, flags, data)
             place = self.find[key]
-        elif place is None or self.owner[place] != value:
-            place = self.place_of(key, value)
-        flow, side = value >> 1, value & 1
-        if self.use_copies and (not self.learned[flow] >> side & 1 or seconds - last[flow] >= SURELY_KEPT):
-            self.wait(data, (value, key, number))
-        last[flow] = seconds
-        if (flows.acked if is_tcp else flows.answered)[flow]:
-            return value, side, place
-        return value, side | (self.role_of_tcp(number, flow, side, flags) if is_tcp
-                              else self.role_of_other(number, flow, side)), place
+        elif place is None or self.owner[place] is not came:
+            place = self.place_of(key, came)
+        flow = came.flow
+        if self.use_copies and (not came.is_known or seconds - flow.last >= SURELY_KEPT):
+            self.wait(data, Waiting(came, key, number))
+        flow.last = seconds
+        if flow.acked if is_tcp else flow.answered:
+            return came, 0, place
+        return came, (self.part_of_tcp(number, came, flags) if is_tcp else self.part_of_other(number, came)), place
 
-    def by_inverse(self, key: bytes) -> int:
-        """The flow and side of a tuple that comes for the first time, by its inverse; 0 if none."""
+    def by_inverse(self, key: bytes) -> Direction | None:
+        """The side of a tuple that comes for the first time, by its inverse."""
         place = self.find.get(inverse(key))
-        value = self.owner[place] if place else 0
-        return value and value ^ 1
+        owner = self.owner[place] if place else None
+        return owner and owner.other
 
-    def still(self, value: int, seconds: int, key: bytes, flags: int, data: bytes) -> int:
-        """The flow of a packet of a known tuple, or 0 if it is the first of another: a lone SYN of another number, or
-        one that comes when the flow has expired."""
-        flow = value >> 1
-        if seconds - self.last[flow] >= self.limits[key[12]]:
-            return 0
-        if flags == SYN and self.begun_with[flow] != sequence_of(data, self.at):
-            return 0
-        return value
+    def still(self, came: Direction, seconds: int, key: bytes, flags: int, data: bytes) -> Direction | None:
+        """The side of a packet of a known tuple, or None if it is the first of another flow: a lone SYN of another
+        number, or one that comes when the flow has expired."""
+        if seconds - came.flow.last >= self.limits[key[12]]:
+            return None
+        if flags == SYN and came.flow.begun_with != sequence_of(data, self.at):
+            return None
+        return came
 
     def wait(self, data: bytes, entry: Waiting) -> None:
         """Has a packet wait for its copy."""
@@ -246,97 +304,92 @@ class Reader:
         if self.waiting > WINDOW:
             self.old, self.young, self.waiting = young, {}, 0
 
-    def role_of_tcp(self, number: int, flow: int, side: int, flags: int) -> int:
-        flows = self.flows
-        known = flows.flags[flow]
-        if not known & BEGUN:
-            return self.role_midway(number, flow, side, flags)
-        if side == 0 and flags == SYN:
-            return 0 if flows.answered[flow] else OPENER
-        if not flows.answered[flow]:
-            flows.answered[flow] = number
-        if side == 1 and flags & (SYN | ACK) == SYN | ACK:
-            flows.flags[flow] = known | SAW_SYN_ACK
+    def part_of_tcp(self, number: int, came: Direction, flags: int) -> int:
+        flow, is_reply = came.flow, came.is_reply
+        if not flow.has_begun:
+            return self.part_midway(number, came, flags)
+        if not is_reply and flags == SYN:
+            return OTHER if flow.answered else OPENER
+        if not flow.answered:
+            flow.answered = number
+        if is_reply and flags & (SYN | ACK) == SYN | ACK:
+            flow.saw_syn_ack = True
             return SYN_ACK
-        if side == 0 and known & SAW_SYN_ACK:
-            flows.acked[flow] = number
-        return 0
+        if not is_reply and flow.saw_syn_ack:
+            flow.acked = number
+        return OTHER
 
-    def role_midway(self, number: int, flow: int, side: int, flags: int) -> int:
+    def part_midway(self, number: int, came: Direction, flags: int) -> int:
         """Of a flow whose SYN isn't in the capture: it was there before, unless the other end answers with RST at once,
         as it does to a scan."""
-        flows = self.flows
-        if flows.flags[flow] & ANSWERED_MIDWAY:
-            return 0
-        if side == 0:
+        flow = came.flow
+        if flow.answered_midway:
+            return OTHER
+        if not came.is_reply:
             return OPENER
         if flags & RST:
-            flows.flags[flow] |= BEGUN
-            flows.answered[flow] = number
-        flows.flags[flow] |= ANSWERED_MIDWAY
-        return 0
+            flow.has_begun = True
+            flow.answered = number
+        flow.answered_midway = True
+        return OTHER
 
-    def role_of_other(self, number: int, flow: int, side: int) -> int:
-        if side == 0:
+    def part_of_other(self, number: int, came: Direction) -> int:
+        if not came.is_reply:
             return OPENER
-        self.flows.answered[flow] = number
-        return 0
+        came.flow.answered = number
+        return OTHER
 
-    def enter_error(self, number: int, data: bytes) -> tuple[int, int, int]:
+    def enter_error(self, number: int, data: bytes) -> tuple[Direction | None, int, int]:
         """An ICMP error belongs to the flow of the datagram in it, on the side that answers that."""
         key = error_tuple_at(data, self.at)
         if key is None:
-            return 0, 0, 0
+            return None, OTHER, 0
         place = self.find.get(key)
-        value = (self.owner[place] if place else 0) or self.by_inverse(key)
+        about = (self.owner[place] if place else None) or self.by_inverse(key)
         if place is None:
-            place = self.place_of(key, value)
+            place = self.place_of(key, about)
         if self.use_copies:
-            self.wait(data, (value, key, number))
-        if not value:
-            return 0, ERROR, place  # a run may tell to which flow it belongs
-        if value & 1 and not self.flows.answered[value >> 1]:
-            self.flows.answered[value >> 1] = number
-        return value, ERROR | value & 1, place
+            self.wait(data, Waiting(about, key, number))
+        # where it is about none, a run may tell to which flow it belongs
+        if about and about.is_reply and not about.flow.answered:
+            about.flow.answered = number
+        return about, ERROR, place
 
-    def begin(self, number: int, seconds: int, key: bytes, flags: int, data: bytes) -> int:
+    def begin(self, number: int, seconds: int, key: bytes, flags: int, data: bytes) -> Direction:
         """Begins a flow; whatever had its tuple, or the inverse, hasn't any longer."""
-        flows, flow = self.flows, len(self.flows.first)
-        flows.first.append(number)
-        flows.answered.append(0)
-        flows.acked.append(0)
-        flows.flags.append(0 if key[12] == TCP and flags != SYN else BEGUN)
-        flows.kind.append(key[12])
-        self.last.append(seconds)
-        self.learned.append(0)
-        self.begun_with.append(sequence_of(data, self.at) if flags == SYN else -1)
+        flow = Flow(len(self.flows.all), key[12], number, seconds, sequence_of(data, self.at) if flags == SYN else -1)
+        flow.has_begun = key[12] != TCP or flags == SYN
+        self.flows.all.append(flow)
         place = self.find.get(key)
-        if place is not None:
-            self.learned[self.owner[place] >> 1] = 0
+        before = self.owner[place] if place else None
+        if before:
+            before.flow.original.is_known = before.flow.reply.is_known = False
         self.find.pop(inverse(key), None)
-        self.place_of(key, 2 * flow)
+        self.place_of(key, flow.original)
         if flags & (SYN | ACK) == SYN | ACK:
-            self.acknowledged[flow] = sequence_of(data, self.at, 8)
+            self.acknowledged[flow.number] = sequence_of(data, self.at, 8)
         if flags == SYN:
-            self.syns[self.begun_with[flow] + 1 & 0xFFFFFFFF] = flow, key
+            self.syns[flow.begun_with + 1 & 0xFFFFFFFF] = Begun(flow, key)
             if len(self.syns) > WINDOW:
                 self.old_syns, self.syns = self.syns, {}
         if len(self.find) > self.sweep_at:
             self.sweep(seconds)
-        return 2 * flow
+        return flow.original
 
-    def by_handshake(self, value: int, key: bytes, data: bytes) -> int:
-        """The flow and side of a SYN and ACK: of its tuple (0 if that isn't known), or if that one began with another
-        SYN, by the SYN that it acknowledges, if one end is the same. 0 if it answers another SYN than the flow of its
+    def by_handshake(self, came: Direction | None, key: bytes, data: bytes) -> Direction | None:
+        """The side of a SYN and ACK: of its tuple (None if that isn't known), or if that one began with another SYN, by
+        the SYN that it acknowledges, if one end is the same. None if it answers another SYN than the flow of its
         tuple."""
         acknowledged = sequence_of(data, self.at, 8)
-        if value and acknowledged == self.begun_with[value >> 1] + 1 & 0xFFFFFFFF:
-            return value
-        flow, asked = self.syns.get(acknowledged) or self.old_syns.get(acknowledged) or (0, key)
-        if flow and has_common_end(asked, key):
-            self.flows.flags[flow] |= TRANSLATED | LEARNED
-            return 2 * flow + 1
-        return value if self.acknowledged.get(value >> 1, acknowledged) == acknowledged else 0
+        if came and acknowledged == came.flow.begun_with + 1 & 0xFFFFFFFF:
+            return came
+        begun = self.syns.get(acknowledged) or self.old_syns.get(acknowledged)
+        if begun and has_common_end(begun.key, key):
+            begun.flow.is_translated = begun.flow.is_learned = True
+            return begun.flow.reply
+        if came and self.acknowledged.get(came.flow.number, acknowledged) == acknowledged:
+            return came
+        return None
 
     # Copies of what the box sent
 
@@ -350,41 +403,41 @@ class Reader:
         if key is None:
             self.leave_error(data)
             return
-        value = self.left.get(key)
-        if (value and self.learned[value >> 1] >> (value & 1) & 1
-                and seconds - self.last[value >> 1] < SURELY_KEPT and not is_lone_syn(data, self.at, key)):
+        before = self.left.get(key)
+        if (before and before.is_known and seconds - before.flow.last < SURELY_KEPT
+                and not is_lone_syn(data, self.at, key)):
             return  # a packet of this side has left so before, and Linux gave its port to no other since
-        inverted = inverse(key)
-        place = self.find.get(inverted)
-        value = self.owner[place] if place else 0
-        value = value and value ^ 1
         came = self.take_waiting(identity(data, self.at), key)
         if came is not None:
-            self.learn(key, inverted, seconds, *came)
+            self.learn(key, seconds, came)
             return
         flows.own += 1
-        place = self.find.get(key)
-        asked = self.owner[place] >> 1 if place else 0
-        if flows.flags[asked] & OWN and value >> 1 in (0, asked):
-            self.last[asked] = seconds
-        elif value and not self.is_taken_over(key, seconds, data):
+        self.leave_own(number, seconds, key, data)
+
+    def leave_own(self, number: int, seconds: int, key: bytes, data: bytes) -> None:
+        """A copy that no packet came for: the box's own question or answer."""
+        place, answers = self.find.get(key), self.by_inverse(key)
+        owner = self.owner[place] if place else None
+        if owner and owner.flow.is_own and (answers is None or answers.flow is owner.flow):
+            owner.flow.last = seconds
+        elif answers and not self.is_taken_over(key, seconds, data):
             # an answer of the box itself
-            if value & 1 and not flows.answered[value >> 1]:
-                flows.answered[value >> 1] = number
-        elif value or place is None:
+            if answers.is_reply and not answers.flow.answered:
+                answers.flow.answered = number
+        elif answers or place is None:
             # a question of the box's own: the answers to it begin nothing
-            flow = self.begin(number, seconds, key, 0, data) >> 1
-            flows.flags[flow] = OWN
+            flow = self.begin(number, seconds, key, 0, data).flow
+            flow.is_own, flow.has_begun = True, False
             self.left.pop(key, None)
 
     def is_taken_over(self, key: bytes, seconds: int, data: bytes) -> bool:
         """Whether the box itself sends with a tuple that another flow left with, which Linux has forgotten since."""
-        value = self.left.get(key)
-        if not value:
+        before = self.left.get(key)
+        if not before:
             return False
         if key[12] == TCP:
-            return is_lone_syn(data, self.at, key) and self.begun_with[value >> 1] != sequence_of(data, self.at)
-        return seconds - self.last[value >> 1] >= FORGOTTEN
+            return is_lone_syn(data, self.at, key) and before.flow.begun_with != sequence_of(data, self.at)
+        return seconds - before.flow.last >= FORGOTTEN
 
     def leave_error(self, data: bytes) -> None:
         """A copy of an ICMP error: the box's own, if none like it came."""
@@ -392,16 +445,18 @@ class Reader:
         if key is not None and self.take_waiting(identity(data, self.at), key) is None:
             self.flows.own += 1
 
-    def learn(self, key: bytes, inverted: bytes, seconds: int, value: int, as_it_came: bytes, its_number: int) -> None:
+    def learn(self, key: bytes, seconds: int, came: Waiting) -> None:
         """A packet left with the tuple `key`: what answers it belongs to its flow."""
-        flows = self.flows
-        if key != as_it_came:
-            value = self.adopted(value, as_it_came, its_number, seconds, inverted)
-            flows.flags[value >> 1] |= TRANSLATED
-        flows.flags[value >> 1] |= LEARNED
-        self.place_of(inverted, value ^ 1)
-        self.learned[value >> 1] |= 1 << (value & 1)
-        self.left[key] = value
+        direction, inverted = came.direction, inverse(key)
+        if direction is None:
+            return
+        if key != came.key:
+            direction = self.adopted(direction, came, seconds, inverted)
+            direction.flow.is_translated = True
+        direction.flow.is_learned = True
+        self.place_of(inverted, direction.other)
+        direction.is_known = True
+        self.left[key] = direction
 
     def take_waiting(self, mark: bytes, key: bytes) -> Waiting | None:
         """The packet that came as this copy's: of several alike the one that changed least."""
@@ -411,35 +466,33 @@ class Reader:
             return None
         if len(alike) == 1:
             return alike[0]
-        came = max(alike, key=lambda one: likeness(one[1], key))
+        came = max(alike, key=lambda one: likeness(one.key, key))
         window[mark] = tuple(one for one in alike if one is not came)
         return came
 
-    def adopted(self, value: int, as_it_came: bytes, number: int, seconds: int, inverted: bytes) -> int:
-        """The flow of a translated packet: that of `inverted`, if such a one lives, the packet seemed to begin another,
+    def adopted(self, direction: Direction, came: Waiting, seconds: int, inverted: bytes) -> Direction:
+        """The side of a translated packet: that of `inverted`, if such a one lives, the packet seemed to begin another,
         since the copy that would have told was lost, and it isn't known how packets of that side come: else Linux gave
         the port of one flow to another."""
-        flows, flow, place = self.flows, value >> 1, self.find.get(inverted)
-        other = 0 if place is None else self.owner[place]
-        if (not other or other >> 1 == flow or flows.first[flow] != number or self.begun_with[flow] >= 0
-                or flows.flags[other >> 1] & OWN or self.learned[other >> 1] >> (other & 1 ^ 1) & 1
-                or seconds - self.last[other >> 1] >= self.limits[inverted[12]]):
-            return value
-        value = other ^ 1
-        self.place_of(as_it_came, value)
-        flow, side = value >> 1, value & 1
-        flows.of[number], flows.role[number] = flow, side
-        self.last[flow] = seconds
-        if side and not flows.answered[flow]:
-            flows.answered[flow] = number
-        return value
+        flows, flow, place = self.flows, direction.flow, self.find.get(inverted)
+        other = self.owner[place] if place else None
+        if (not other or other.flow is flow or flow.first != came.record or flow.begun_with >= 0
+                or other.flow.is_own or other.other.is_known
+                or seconds - other.flow.last >= self.limits[inverted[12]]):
+            return direction
+        side, record = other.other, came.record
+        self.place_of(came.key, side)
+        flows.of[record], flows.is_reply[record], flows.part[record] = side.flow.number, side.is_reply, OTHER
+        side.flow.last = seconds
+        if side.is_reply and not side.flow.answered:
+            side.flow.answered = record
+        return side
 
     def sweep(self, seconds: int) -> None:
         """Forgets the tuples of what has expired."""
-        owner, last, limits = self.owner, self.last, self.limits
-        self.find = {
-            key: place for key, place in self.find.items() if seconds - last[owner[place] >> 1] < limits[key[12]]}
-        self.left = {key: value for key, value in self.left.items() if seconds - last[value >> 1] < limits[key[12]]}
+        limits, lasts = self.limits, [one.flow.last if one else 0 for one in self.owner]
+        self.find = {key: place for key, place in self.find.items() if seconds - lasts[place] < limits[key[12]]}
+        self.left = {key: one for key, one in self.left.items() if seconds - one.flow.last < limits[key[12]]}
         self.sweep_at = max(1 << 16, 2 * len(self.find))
 
 

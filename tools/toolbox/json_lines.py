@@ -7,7 +7,7 @@ from typing import TYPE_CHECKING, Callable, Dict, Iterator, TypeVar
 
 from toolbox.captures import (
     BROADCAST, LINK_LENGTHS, LINUX_SLL2, MULTICAST, OTHER_STATION, SENT_BY_US, header_of, packet_at, records)
-from toolbox.flows import ERROR, MOST_READ, SIDE
+from toolbox.flows import ERROR, MOST_READ
 from toolbox.packets import (
     ANSWER, ASK, ECHO_REPLY, ECHO_REQUEST, ICMP, PORTED, PROTOCOL_NAMES, TCP, UDP, address_text, error_tuple_at,
     inverse, tuple_at)
@@ -150,12 +150,12 @@ class RecordTexts:
         """The lines in order, by the packets that left and the report."""
         flows, link_type, digits = self.flows, self.header.link_type, len(str(self.header.fractions)) - 1
         packet_text, names, came, told, outcomes = self.packets.text, self.names, self.came, self.events, self.outcomes
-        frames, kind = (record[6] for record in records(leaving, MOST_READ)), flows.kind
-        of, role, seen = (islice(numbers, 1, None) for numbers in (flows.of, flows.role, flows.seen))
-        for (number, seconds, fraction, _, _, _, data), (events, outcome), flow, what, place in zip(
-                records(flows.path, MOST_READ), traced_records(report), of, role, seen):
+        frames, all_flows = (record[6] for record in records(leaving, MOST_READ)), flows.all
+        columns = (islice(numbers, 1, None) for numbers in (flows.of, flows.is_reply, flows.part, flows.seen))
+        for (number, seconds, fraction, _, _, _, data), (events, outcome), (flow, is_reply, part, place) in zip(
+                records(flows.path, MOST_READ), traced_records(report), zip(*columns)):
             came_by = names[data[4:8]] if link_type == LINUX_SLL2 else self.default
-            if flow and kind[flow] in PORTED and not what & ERROR:
+            if flow and all_flows[flow].kind in PORTED and part != ERROR:
                 before = came[place]
             else:
                 before = packet_text(data, packet_at(data, link_type))
@@ -167,6 +167,6 @@ class RecordTexts:
             if outcome == b"link" and link_type == LINUX_SLL2:
                 ended += LINK_KINDS.get(data[10:11], "")
             yield (f'{{"record": {number}, "time": {seconds}.{str(fraction).zfill(digits)}, "flow": {flow or "null"}, '
-                   f'"direction": {DIRECTIONS[what & SIDE] if flow else "null"}, "in": {came_by}, "before": {before}, '
+                   f'"direction": {DIRECTIONS[is_reply] if flow else "null"}, "in": {came_by}, "before": {before}, '
                    f'"events": {told[events] if events else "[]"}, "outcome": {ended}, "out": {left_by}, '
                    f'"after": {after}}}\n')

@@ -11,17 +11,17 @@ import os
 import shutil
 import struct
 from array import array
-from typing import TYPE_CHECKING, Iterator
+from typing import TYPE_CHECKING, Iterator, List, Optional, Tuple
 
 from toolbox import program
 from toolbox.captures import LINK_LENGTHS, LINUX_SLL2, OTHER_STATION, RAW_IP, called, header_of, pieces, records
 from toolbox.commands import Refused
-from toolbox.flows import BEGUN, ERROR, OPENER, OWN, SAW_SYN_ACK, SIDE, SYN_ACK, TRANSLATED
+from toolbox.flows import ERROR, OPENER, OTHER, SYN_ACK
 from toolbox.packets import PORTED, TCP, USUAL_HEADER, destination_end, inverse, source_end, tuple_at, with_destination
 from toolbox.reports import outcomes_of
 
 if TYPE_CHECKING:
-    from toolbox.flows import Flows
+    from toolbox.flows import Direction, Flow, Flows
 
 # Where a record goes: as it came, to an end (its place in `ends`, from 1), or nowhere
 AS_CAPTURED, NOT_SENT = 0, 0xFFFFFFFF
@@ -30,6 +30,8 @@ STOPPED, ELSEWHERE = 1, 2
 PASSED, LOCAL = 1, 2  # as `outcomes_of` numbers them here
 OUT_LINK = LINK_LENGTHS[LINUX_SLL2]
 MOST_ROUNDS = 12
+# of the original side and of the reply, by the flow's number, a tuple
+Tuples = Tuple[List[Optional[bytes]], List[Optional[bytes]]]
 MOST_CHANGED = 2048  # bytes of a record within which its headers stand, or the whole datagram of an ICMP error
 
 
@@ -203,92 +205,97 @@ class Decisions:
         self.outcomes, self.left = replay.outcomes, left_tuples(replay.files.leaving)
         self.cuts, self.spared, self.takes_out = cuts, replay.spared, not replay.as_captured
         self.to, self.ends = array("I", bytes(4 * (flows.count + 1))), replay.ends
-        self.cut = bytearray(len(flows.first))
-        self.opened = bytearray(len(flows.first))  # PASSED, LOCAL: an opener went through; 4: a SYN and ACK did
-        self.fine = bytearray(len(flows.first))  # whose beginning went through: it is cut no more
-        # by flow times two, and side: the tuple with which its packets have to come, the one with which they last left
-        self.choice: list[bytes | None] = [None] * (2 * len(flows.first))
-        self.left_as: list[bytes | None] = [None] * (2 * len(flows.first))
+        count = len(flows.all)
+        self.cut = bytearray(count)
+        # whose opener passed, whose opener was delivered to the box, whose SYN and ACK went through
+        self.passed, self.delivered, self.acknowledged = bytearray(count), bytearray(count), bytearray(count)
+        self.fine = bytearray(count)  # whose beginning went through: it is cut no more
+        # of the original side and the reply, by flow: the tuple with which its packets have to come, the one with which
+        # they last left
+        self.choice: Tuples = ([None] * count, [None] * count)
+        self.left_as: Tuples = ([None] * count, [None] * count)
         # without copies a run tells which later flow is the other side of an earlier one
         self.joins = not (flows.copies and not flows.aligned or replay.spared)
-        self.expected: dict[bytes, int] = {}
-        self.joined: dict[int, int] = {}
-        self.joined_errors: dict[int, int] = {}
+        self.expected: dict[bytes, Direction] = {}
+        self.joined: dict[int, Direction] = {}  # by flow the side of an earlier one that its original side is
+        self.joined_errors: dict[int, Direction] = {}  # by record
 
     def make(self) -> None:
         flows, next_left, cuts, joins = self.flows, self.left.__next__, self.cuts, self.joins
-        seen, tuples, known, first = flows.seen, flows.tuples, flows.flags, flows.first
+        seen, tuples, all_flows = flows.seen, flows.tuples, flows.all
         to, choice, left_as, fine = self.to, self.choice, self.left_as, self.fine
-        takes_out = self.takes_out
-        for record, (flow, what, outcome) in enumerate(zip(flows.of, flows.role, self.outcomes)):
+        takes_out, error, opener, other = self.takes_out, int(ERROR), int(OPENER), int(OTHER)
+        columns = zip(flows.of, flows.is_reply, flows.part, self.outcomes)
+        for record, (number, side, part, outcome) in enumerate(columns):
             left = next_left() if outcome == PASSED else None
-            if not flow:
-                if what and joins:
+            if not number:
+                if part and joins:
                     self.look_for_error(record)
                 continue
+            flow = all_flows[number]
             # an opener comes before any answer, so it is never cut
-            if takes_out and known[flow] & OWN or cuts and not fine[flow] and not what & OPENER and (
-                    known[flow] & BEGUN and self.is_cut(record, flow)):
+            if takes_out and flow.is_own or cuts and not fine[number] and part != opener and (
+                    flow.has_begun and self.is_cut(record, flow)):
                 to[record] = NOT_SENT
                 continue
-            side = what & SIDE
-            value = flow + flow + side
-            if what & (OPENER | SYN_ACK):
-                self.note_opening(flow, what, outcome)
-            wanted = choice[value]
+            if part != other and part != error:
+                self.note_opening(number, part, outcome)
+            wanted = choice[side][number]
             if wanted is not None:
                 came = tuples[seen[record]]
                 if came != wanted and not self.send_to(record, flow, side, came, wanted):
                     continue
             elif side and cuts and self.is_answered_by_box(record, flow):
                 continue
-            if what & ERROR:
+            if part == error:
                 continue
-            if joins and first[flow] == record:
-                self.look_for_join(record, flow)
-            if left is not None and left_as[value] != left:
+            if joins and flow.first == record:
+                self.look_for_join(record, number)
+            if left is not None and left_as[side][number] != left:
                 self.learn(record, flow, side, left)
 
-    def note_opening(self, flow: int, what: int, outcome: int) -> None:
+    def note_opening(self, flow: int, part: int, outcome: int) -> None:
         """Notes that a packet which opens a flow, or the SYN and ACK that answers it, went through."""
-        if outcome in (PASSED, LOCAL):
-            self.opened[flow] |= outcome if what & OPENER else 4
+        if part == SYN_ACK:
+            self.acknowledged[flow] |= outcome in (PASSED, LOCAL)
+        elif outcome == PASSED:
+            self.passed[flow] = True
+        elif outcome == LOCAL:
+            self.delivered[flow] = True
 
-    def is_cut(self, record: int, flow: int) -> bool:
+    def is_cut(self, record: int, flow: Flow) -> bool:
         """Whether a record isn't sent, since what comes before it in its flow didn't go through."""
-        if self.spared and self.spared[flow]:
+        number = flow.number
+        if self.spared and self.spared[number]:
             return False
-        if self.cut[flow]:
+        if self.cut[number]:
             return True
-        flows, opened = self.flows, self.opened[flow]
-        answered, acked = flows.answered[flow], flows.acked[flow]
-        if answered and record >= answered and not opened & (PASSED | LOCAL):
-            self.cut[flow] = STOPPED
-        elif acked and record >= acked and flows.flags[flow] & SAW_SYN_ACK and not opened & 4:
-            self.cut[flow] = STOPPED
+        answered, acked = flow.answered, flow.acked
+        if answered and record >= answered and not (self.passed[number] or self.delivered[number]):
+            self.cut[number] = STOPPED
+        elif acked and record >= acked and flow.saw_syn_ack and not self.acknowledged[number]:
+            self.cut[number] = STOPPED
         else:
-            last = acked if flows.kind[flow] == TCP else answered
-            self.fine[flow] = 0 < last <= record
-        return bool(self.cut[flow])
+            last = acked if flow.kind == TCP else answered
+            self.fine[number] = 0 < last <= record
+        return bool(self.cut[number])
 
-    def send_to(self, record: int, flow: int, side: int, came: bytes, wanted: bytes) -> bool:
+    def send_to(self, record: int, flow: Flow, side: int, came: bytes, wanted: bytes) -> bool:
         """Sends a record to the end that the ruleset chose; not where it comes from another host than the ruleset sent
         the flow to: that one's answers aren't known. Answers whether it is sent."""
         if source_end(came) != source_end(wanted):
-            if self.cuts and side and self.flows.flags[flow] & BEGUN:
-                self.goes_elsewhere(record, flow)
+            if self.cuts and side and flow.has_begun:
+                self.goes_elsewhere(record, flow.number)
                 return False
             return True
         self.to[record] = self.ends.number(destination_end(wanted))
         return True
 
-    def is_answered_by_box(self, record: int, flow: int) -> bool:
+    def is_answered_by_box(self, record: int, flow: Flow) -> bool:
         """Whether the ruleset delivers a flow of TCP to the box itself, whose answers aren't known."""
-        if self.opened[flow] & (PASSED | LOCAL) != LOCAL or self.flows.kind[flow] != TCP:
+        if not self.delivered[flow.number] or self.passed[flow.number] or flow.kind != TCP or not flow.has_begun:
             return False
-        if not self.flows.flags[flow] & BEGUN:
-            return False
-        self.goes_elsewhere(record, flow)
+        self.goes_elsewhere(record, flow.number)
         return True
 
     def goes_elsewhere(self, record: int, flow: int) -> None:
@@ -296,25 +303,33 @@ class Decisions:
 
     def look_for_join(self, record: int, flow: int) -> None:
         """Whether this flow is the other side of an earlier one, as what left of that one tells."""
-        value = self.expected.pop(self.flows.tuple_of(record), None)
-        if value is not None and value >> 1 in self.joined:
-            value = self.joined[value >> 1] ^ value & 1
-        if value is not None and value >> 1 != flow:
-            self.joined[flow] = value
+        expected = self.expected.pop(self.flows.tuple_of(record), None)
+        if expected is None:
+            return
+        direction = self.joined_direction(expected)
+        if direction.flow.number != flow:
+            self.joined[flow] = direction
 
     def look_for_error(self, record: int) -> None:
         """Whether an ICMP error of no flow is about what left of one."""
-        value = self.expected.get(self.flows.tuple_of(record))
-        if value is not None:
-            self.joined_errors[record] = self.joined.get(value >> 1, value & ~1) ^ value & 1
+        expected = self.expected.get(self.flows.tuple_of(record))
+        if expected is not None:
+            self.joined_errors[record] = self.joined_direction(expected)
 
-    def learn(self, record: int, flow: int, side: int, left: bytes) -> None:
+    def joined_direction(self, direction: Direction) -> Direction:
+        """The side that this one is, if its flow is joined to another."""
+        original = self.joined.get(direction.flow.number)
+        return direction if original is None else original.seen_from(direction.is_reply)
+
+    def learn(self, record: int, flow: Flow, side: int, left: bytes) -> None:
         """What left, as the tuple `left`, tells with which one the other side's packets have to come."""
-        self.left_as[2 * flow + side] = left
-        if self.flows.flags[flow] & TRANSLATED or left != self.flows.tuple_of(record):
+        number = flow.number
+        self.left_as[side][number] = left
+        if flow.is_translated or left != self.flows.tuple_of(record):
             answer = inverse(left)
-            self.choice[2 * flow + (side ^ 1)] = answer
+            self.choice[1 - side][number] = answer
             # side 0 is known by how it came; what comes so again may begin another flow. Of one that is joined to an
             # earlier one, its side 0 may be the other side
-            if self.joins and side == self.joined.get(flow, 0) & SIDE:
-                self.expected[answer] = 2 * flow + (side ^ 1)
+            joined = self.joined.get(number)
+            if self.joins and bool(side) == (joined is not None and joined.is_reply):
+                self.expected[answer] = flow.original if side else flow.reply

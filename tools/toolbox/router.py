@@ -13,13 +13,13 @@ from typing import TYPE_CHECKING, Collection, Iterator, Tuple
 
 from toolbox.captures import IPV4, LINK_LENGTHS, LINUX_SLL2, SENT_BY_US, TO_US, records
 from toolbox.commands import plural
-from toolbox.flows import BEGUN, MOST_ALIKE, MOST_READ, OWN, WINDOW, likeness
+from toolbox.flows import MOST_ALIKE, MOST_READ, WINDOW, likeness
 from toolbox.packets import TCP, error_tuple_at, identity, tuple_at
 from toolbox.replay import NOT_SENT
 
 if TYPE_CHECKING:
     from toolbox.boxes import Box
-    from toolbox.flows import Flows
+    from toolbox.flows import Flow, Flows
     from toolbox.replay import Replay
 
 AT = LINK_LENGTHS[LINUX_SLL2]
@@ -294,17 +294,18 @@ class Router:
         if not flow:
             return False
         if flow not in self.earlier:
-            is_midway = self.of.kind[flow] == TCP and not self.of.is_marked(flow, BEGUN | OWN)
-            self.earlier[flow] = is_midway or self.answers_earlier(flow)
+            one = self.of.all[flow]
+            is_midway = one.kind == TCP and not one.has_begun and not one.is_own
+            self.earlier[flow] = is_midway or self.answers_earlier(one)
         return self.earlier[flow] or self.moved.get(flow, record + 1) <= record
 
-    def answers_earlier(self, flow: int) -> bool:
+    def answers_earlier(self, flow: Flow) -> bool:
         """Whether a flow begins with a packet to an address of the box that the router sent on all the same, so soon
         that the translation may have begun before the capture."""
         flows = self.of
-        first = flows.first[flow]
-        limit = self.box.limits()[flows.kind[flow]]
-        return (flows.kind[flow] != TCP and flows.tuple_of(first)[4:8] in self.box.addresses
+        first = flow.first
+        limit = self.box.limits()[flow.kind]
+        return (flow.kind != TCP and flows.tuple_of(first)[4:8] in self.box.addresses
                 and flows.seconds(first) - flows.seconds(1) < limit)
 
     def told(self) -> list[tuple[Way, Astray]]:

@@ -49,15 +49,15 @@ class Why:
         self.read_record()
         self.read_events()
         self.flow = self.flows.of[record]
-        self.is_reply, self.is_error = bool(self.flows.side(record)), self.flows.is_error(record)
+        self.is_reply, self.is_error = bool(self.flows.is_reply[record]), self.flows.is_error(record)
         self.members = [record]
         if self.flow:
             self.members = [number for number, flow in enumerate(self.flows.of) if flow == self.flow]
         self.read_frames()
-        first = self.flows.first[self.flow] if self.flow else record
+        first = self.flows.all[self.flow].first if self.flow else record
         self.first_outcome = self.replay.outcome(first)
         decisions = self.replay.decide(False)
-        # by flow times two, and side, the tuple with which its last packet left
+        # of the original side and the reply, by flow, the tuple with which its last packet left
         self.left_as = decisions.left_as
         place = decisions.to[record]
         # the end to which an answer has to go in this run, where it isn't the one in the capture
@@ -104,17 +104,18 @@ class Why:
         if self.key is None:
             return None
         outside = destination_end(self.key)
-        for value, left in enumerate(self.left_as):
-            if left and value & 1 == 0 and left[12] == self.key[12] and source_end(left) == outside:
-                inside = source_end(self.flows.tuple_of(self.flows.first[value >> 1]))
+        left_as, _ = self.left_as
+        for flow, left in zip(self.flows.all, left_as):
+            if left and left[12] == self.key[12] and source_end(left) == outside:
+                inside = source_end(self.flows.tuple_of(flow.first))
                 return inside if inside != outside else None
         return None
 
     def answered_flow(self) -> tuple[int, int] | None:
         """An earlier flow that this packet would answer, with how many seconds had gone since its last record; or
         None."""
-        for value, left in enumerate(self.left_as):
-            flow = value >> 1
+        lefts = ((flow, left) for flow, sides in enumerate(zip(*self.left_as)) for left in sides)
+        for flow, left in lefts:
             if left and flow != self.flow and inverse(left) == self.key:
                 last = max((number for number, of in enumerate(self.flows.of[:self.record]) if of == flow), default=0)
                 return (flow, self.seconds - self.flows.seconds(last)) if last else None
@@ -190,7 +191,7 @@ class Why:
 
     def member_line(self, number: int, moment: str, data: bytes) -> str:
         about = "error about " if self.flows.is_error(number) else ""
-        direction = about + ("reply" if self.flows.side(number) else "original")
+        direction = about + ("reply" if self.flows.is_reply[number] else "original")
         at = packet_at(data, self.link_type)
         key = None if at is None else tuple_at(data, at)
         flags = ""

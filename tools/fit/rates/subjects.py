@@ -6,6 +6,7 @@ from dataclasses import dataclass
 from typing import TYPE_CHECKING, Iterator, Mapping, Sequence, Union
 
 from ..expressions import as_number
+from ..grades import Grade
 from ..scanner import place
 from ..tree import (
     Bound,
@@ -220,7 +221,7 @@ class Subjects:
             draft.table.name, f"{self.prefix}{number}", spot_of(it) if isinstance(ask, AskedBound) else ask.found)
         self.probes.append(probe)
         draft.put(probe.match)
-        draft.tell("outcome", probe.match, REPLAYED)
+        draft.tell(Grade.OUTCOME, probe.match, REPLAYED)
         return True
 
     def ask_of(self, draft: Draft, it: Statement) -> Ask | None:

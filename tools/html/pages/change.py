@@ -9,7 +9,7 @@ from pages.texts import number, plural, shown
 from pages.verdict import uncompared, verdict
 from toolbox.differences import BLOCKED, OPENED, OTHERWISE, REWRITTEN, Groups, Sight, differing
 from toolbox.evidence import Evidence
-from toolbox.flows import LEARNED, Flows
+from toolbox.flows import Flows
 from toolbox.guard import USUAL, AllowList, Guard, Seen, unmet_of
 from toolbox.packets import TCP, address_text
 from toolbox.program import find_program
@@ -175,9 +175,9 @@ def replays(program: str, old: str, new: str, box: str, flows: Flows, folder: st
     """Both replays, as compare makes them: what the old one stops though the capture shows that it was sent on began
     before the capture, and is replayed whole."""
     before = Replay(program, old, box, flows, Files(folder, "old"), cuts=True)
-    spared = bytearray(len(flows.first))
+    spared = bytearray(len(flows.all))
     for flow, cut in enumerate(before.cut):
-        if cut == STOPPED and flows.kind[flow] != TCP and flows.is_marked(flow, LEARNED):
+        if cut == STOPPED and flows.all[flow].kind != TCP and flows.all[flow].is_learned:
             spared[flow] = 1
     if any(spared):
         before = Replay(program, old, box, flows, Files(folder, "old"), cuts=True, spared=spared, like=before)
