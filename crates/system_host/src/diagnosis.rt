@@ -6,11 +6,8 @@ use engine::RulesFault;
 use fault_advice::explained;
 use fault_location::{Fault, SourcePaths, Sources, all_faults};
 use program::Status;
-use std::hash::RandomState;
-use std::random::RandomSource;
 use std::rt::Files;
 use std::{fs, io};
-use table_remarks::{Rerun, Texts, table_remarks};
 
 /// Prints to standard error what the status of a task means and where its fault is.
 ///
@@ -110,16 +107,13 @@ fn print_capture_location<R: Files + Eprint + AllocGlobal>(
     }
 }
 
-/// Prints to standard error what of the capture of a run may mislead, and how full the connection
-/// table got, as far as the texts and the capture are regular files.
-pub fn remark_on_capture<R: Files + Eprint + RandomSource + AllocGlobal>(
-    rt: &R,
-    paths: &ReplayPaths<'_>,
-) {
+/// Prints to standard error what of the capture of a run may mislead, as far as the box file and the
+/// capture are regular files.
+pub fn remark_on_capture<R: Files + Eprint + AllocGlobal>(rt: &R, paths: &ReplayPaths<'_>) {
     let _ = print_remarks(rt, paths);
 }
 
-fn print_remarks<R: Files + Eprint + RandomSource + AllocGlobal>(
+fn print_remarks<R: Files + Eprint + AllocGlobal>(
     rt: &R,
     paths: &ReplayPaths<'_>,
 ) -> io::Result<()> {
@@ -127,41 +121,10 @@ fn print_remarks<R: Files + Eprint + RandomSource + AllocGlobal>(
     if !is_regular(rt, path) {
         return Ok(());
     }
-    let text = read_again(rt, paths.plant);
-    let Ok(plant) = Plant::read(rt.alloc(), &text) else {
+    let Ok(plant) = Plant::read(rt.alloc(), &read_again(rt, paths.plant)) else {
         return Ok(());
     };
     let lines = remarks(rt.alloc(), path, fs::open(rt, path)?, &plant)?;
-    eprint!(rt; "{}", lines.as_str())?;
-    // An empty text would be a ruleset, too.
-    if !is_regular(rt, paths.rules) {
-        return Ok(());
-    }
-    let rules = fs::read(rt, paths.rules)?;
-    print_table_remarks(
-        rt,
-        path,
-        Texts {
-            rules: &rules,
-            plant: &text,
-        },
-    )
-}
-
-/// Prints to standard error how full the connection table gets as these texts are run over a capture
-/// again.
-fn print_table_remarks<R: Files + Eprint + RandomSource + AllocGlobal>(
-    rt: &R,
-    path: &str,
-    texts: Texts<'_>,
-) -> io::Result<()> {
-    let hasher = RandomState::new(rt)?;
-    let first = Rerun::open(rt.alloc(), hasher, texts, fs::open(rt, path)?);
-    let again = Rerun::open(rt.alloc(), hasher, texts, fs::open(rt, path)?);
-    let (Some(first), Some(again)) = (first, again) else {
-        return Ok(());
-    };
-    let lines = table_remarks(rt.alloc(), path, first, again)?;
     eprint!(rt; "{}", lines.as_str())
 }
 
