@@ -199,6 +199,7 @@ fn remove_tuple(keys: &mut HashMap<Tuple, u32, WordState>, tuple: Tuple)
 }
 
 /// The slot of a tuple's entry, by the index unless it is the likely one.
+#[inline(always)]
 fn slot_of(
     slots: &AgedSlots,
     keys: &HashMap<Tuple, u32, WordState>,
@@ -217,6 +218,7 @@ fn slot_of(
 }
 
 /// The slot of a tuple in the index.
+#[inline(always)]
 fn key_of(keys: &HashMap<Tuple, u32, WordState>, tuple: Tuple) -> Option<usize>
     ensures { result ≡ get same_tuple keys.now tuple }
 {

@@ -85,6 +85,7 @@ impl Transport {
 
 /// Whether a payload is too short for its protocol, or its length field or data offset doesn't fit
 /// it.
+#[inline(always)]
 pub(crate) fn is_malformed(protocol: u8, payload: &[u8]) -> bool
     ensures { result ≡ transport_is_malformed protocol payload.now }
 {

@@ -52,6 +52,7 @@ pub fn update_source(info: &CtInfo, facts: &mut Facts)
 }
 
 /// Sets the NAT status of a new connection, which follows its tuple.
+#[inline(always)]
 fn set_nat_status(new_connection: &NewConnection, ct: &mut CtFacts)
     ensures { ct.new ≡ ct_facts_after_nat (New new_connection.now) ct.old }
 {
