@@ -1,5 +1,6 @@
 -- The walk to an example.
-use Rattle.std.proofs.Common.{◌≡◌, ◌≢◌, ◌∙◌, ◌==◌, ◌||◌, ◌++◌, ◌∷◌, [], ℕ, zero, suc, ◌<◌, ◌≤◌, List, length, Bool, true, false, cond, refl, ap, sym, subst, arith, inl, inr}
+use Rattle.std.proofs.Common.{◌≡◌, ◌≢◌, ◌∙◌, ◌==◌, ◌||◌, ◌++◌, ◌∷◌, [], ℕ, zero, suc, ◌<◌, ◌≤◌}
+use Rattle.std.proofs.Common.{List, length, Bool, true, false, cond, refl, ap, sym, subst, arith, inl, inr}
 use Rattle.std.proofs.lemmas.Bool.{OnFalse_from, OnTrue_from, cases_eq, cases_lt, eqb-false, eqb-true}
 use Rattle.std.specs.Bool.{OnFalse, OnTrue}
 use Rattle.std.proofs.lemmas.Bool.Decides.{nat_tests}
@@ -42,7 +43,8 @@ along_high nodes n at bits are two is none =
       same = λ f h.
           is.same f (λ b l. h b (omega (arith, ha, l)) ∙ has-other bits (bit_of nodes at) b (omega (arith, l)))
           ∙ meaning_at nodes at _ _ _ f are is.below refl
-          ∙ ap (λ v. cond v (meaning nodes (branch_at nodes at).high f) (meaning nodes (branch_at nodes at).low f)) (h (bit_of nodes at) ha ∙ has-new bits (bit_of nodes at));
+          ∙ ap (λ v. cond v (meaning nodes (branch_at nodes at).high f) (meaning nodes (branch_at nodes at).low f)) (h (bit_of nodes at) ha
+          ∙ has-new bits (bit_of nodes at));
     }
 
 pub along_low : (nodes : List Branch) (n at : ℕ) (bits : List ℕ) → AreNodes nodes → 2 ≤ at → IsAlong nodes n bits at → (branch_at nodes at).low ≢ 0
@@ -57,7 +59,8 @@ along_low nodes n at bits are two is some =
       same = λ f h.
           is.same f (λ b l. h b (omega (arith, la, l)))
           ∙ meaning_at nodes at _ _ _ f are is.below refl
-          ∙ ap (λ v. cond v (meaning nodes (branch_at nodes at).high f) (meaning nodes (branch_at nodes at).low f)) (h (bit_of nodes at) la ∙ is.absent (bit_of nodes at) (omega arith));
+          ∙ ap (λ v. cond v (meaning nodes (branch_at nodes at).high f) (meaning nodes (branch_at nodes at).low f)) (h (bit_of nodes at) la
+          ∙ is.absent (bit_of nodes at) (omega arith));
     }
 
 pub along_end : (nodes : List Branch) (n at : ℕ) (bits : List ℕ) → AreNodes nodes → at < 2 → IsAlong nodes n bits at → meaning nodes n (has_bit bits) ≡ true
@@ -67,14 +70,16 @@ along_end nodes n at bits are h is =
     is.same (has_bit bits) (λ b l. refl) ∙ ap (λ x. meaning nodes x (has_bit bits)) e ∙ meaning_all nodes (has_bit bits) are
 
 -- there is a packet from each node on the way
-along-some : (k : ℕ) (nodes : List Branch) (n at : ℕ) (bits : List ℕ) → AreNodes nodes → at ≤ k → IsAlong nodes n bits at → (f : ℕ → Bool) × (meaning nodes n f ≡ true)
+along-some : (k : ℕ) (nodes : List Branch) (n at : ℕ) (bits : List ℕ) → AreNodes nodes → at ≤ k → IsAlong nodes n bits at → (f : ℕ
+    → Bool) × (meaning nodes n f ≡ true)
 along-some zero nodes n at bits are h is = (has_bit bits, along_end nodes n at bits are (omega arith) is)
 along-some (suc k) nodes n at bits are h is = elim (cases_lt at 2) [
   | inl l ↦ (has_bit bits, along_end nodes n at bits are l is)
   | inr two ↦
       let i = are.branches at two is.below in
       elim (cases_eq (branch_at nodes at).low 0) [
-        | inl none ↦ along-some k nodes n (branch_at nodes at).high (bits ++ bit_of nodes at ∷ []) are (omega (arith, i.high_before)) (along_high nodes n at bits are two is none)
+        | inl none ↦ along-some k nodes n (branch_at nodes at).high (bits ++ bit_of nodes at ∷ []) are (omega (arith, i.high_before)) (along_high nodes n
+            at bits are two is none)
         | inr some ↦ along-some k nodes n (branch_at nodes at).low bits are (omega (arith, i.low_before)) (along_low nodes n at bits are two is some)
       ]
 ]
@@ -90,14 +95,16 @@ sometimes nodes n are below = OnFalse_from (n == 0) ((f : ℕ → Bool) × (mean
 
 -- ---- the same, where a node was read
 
-pub high_read : (nodes : List Branch) (n at : ℕ) (bits items : List ℕ) (b : Branch) → AreNodes nodes → 1 < at → IsAlong nodes n bits at → b ≡ branch_at nodes at → items ≡ bits ++ b.bit ∷ []
+pub high_read : (nodes : List Branch) (n at : ℕ) (bits items : List ℕ) (b : Branch) → AreNodes nodes → 1 < at → IsAlong nodes n bits at
+    → b ≡ branch_at nodes at → items ≡ bits ++ b.bit ∷ []
     → b.low ≡ 0 → IsAlong nodes n items b.high
 high_read nodes n at bits items b are two is read e none =
     let r = sym read in
     let P : Branch → Type 0 = λ x. IsAlong nodes n (bits ++ x.bit ∷ []) x.high in
     subst (λ xs. IsAlong nodes n xs b.high) (sym e) (subst P r (along_high nodes n at bits are (omega arith) is (ap (λ x. x.low) r ∙ none)))
 
-pub low_read : (nodes : List Branch) (n at : ℕ) (bits : List ℕ) (b : Branch) → AreNodes nodes → 1 < at → IsAlong nodes n bits at → b ≡ branch_at nodes at → b.low ≢ 0 → IsAlong nodes n bits b.low
+pub low_read : (nodes : List Branch) (n at : ℕ) (bits : List ℕ) (b : Branch) → AreNodes nodes → 1 < at → IsAlong nodes n bits at → b ≡ branch_at nodes at
+    → b.low ≢ 0 → IsAlong nodes n bits b.low
 low_read nodes n at bits b are two is read some =
     let r = sym read in
     let P : Branch → Type 0 = λ x. IsAlong nodes n bits x.low in

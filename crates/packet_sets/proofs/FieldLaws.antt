@@ -20,7 +20,8 @@ power_split (suc width) h =
     let p = pow-suc 2 width in
     rw e (omega (arith, p))
 
-pub value_split : (first width : ℕ) (f : ℕ → Bool) → 0 < width → field_value first width f ≡ cond (f first) (2 ^ (width - 1)) 0 + field_value (first + 1) (width - 1) f
+pub value_split : (first width : ℕ) (f : ℕ → Bool) → 0 < width → field_value first width f ≡ cond (f first) (2 ^ (width - 1)) 0 + field_value (first + 1)
+    (width - 1) f
 unfolding field_value
 value_split first zero f h = absurd (omega arith)
 value_split first (suc width) f h = let e : suc width - 1 ≡ width = omega arith in rw e refl
@@ -57,13 +58,15 @@ low-true Equal half rest number h n = grind (arith, nat_tests)
 low-false : (c : Comparison) (half rest number : ℕ) → rest < half → number < half → compared c rest number ≡ compared c (0 + rest) number
 low-false c half rest number h n = let e : 0 + rest ≡ rest = omega arith in rw e refl
 
-step-high : (c : Comparison) (b : Bool) (half rest number : ℕ) → rest < half → half ≤ number → cond b (compared c rest (number - half)) (less_passes c) ≡ compared c (cond b half 0 + rest) number
+step-high : (c : Comparison) (b : Bool) (half rest number : ℕ) → rest < half → half ≤ number
+    → cond b (compared c rest (number - half)) (less_passes c) ≡ compared c (cond b half 0 + rest) number
 step-high c b half rest number h n = elim b as (λ v. cond v (compared c rest (number - half)) (less_passes c) ≡ compared c (cond v half 0 + rest) number) [
   | true ↦ high-true c half rest number h n
   | false ↦ high-false c half rest number h n
 ]
 
-step-low : (c : Comparison) (b : Bool) (half rest number : ℕ) → rest < half → number < half → cond b (greater_passes c) (compared c rest number) ≡ compared c (cond b half 0 + rest) number
+step-low : (c : Comparison) (b : Bool) (half rest number : ℕ) → rest < half → number < half
+    → cond b (greater_passes c) (compared c rest number) ≡ compared c (cond b half 0 + rest) number
 step-low c b half rest number h n = elim b as (λ v. cond v (greater_passes c) (compared c rest number) ≡ compared c (cond v half 0 + rest) number) [
   | true ↦ low-true c half rest number h n
   | false ↦ low-false c half rest number h n
@@ -87,7 +90,8 @@ zeros AtLeast first f = refl
 zeros AtMost first f = refl
 zeros Equal first f = refl
 
-pub compared_none : (nodes : List Branch) (c : Comparison) (field : Field) (number : ℕ) → AreNodes nodes → field.width ≡ 0 → field.first < 2 ^ 32 → number < 2 ^ field.width → IsComparison nodes c field number 1
+pub compared_none : (nodes : List Branch) (c : Comparison) (field : Field) (number : ℕ) → AreNodes nodes → field.width ≡ 0 → field.first < 2 ^ 32
+    → number < 2 ^ field.width → IsComparison nodes c field number 1
 compared_none nodes c field number are e small n =
     let two = are.ends in
     let p : number < 2 ^ 0 = subst (λ w. number < 2 ^ w) e n in
@@ -95,11 +99,14 @@ compared_none nodes c field number are e small n =
     record {
       below = omega arith;
       after = omega (arith, end_at nodes 1 are (lit< tt));
-      meaning = λ f. meaning_all nodes f are ∙ sym (ap (λ w. compared c (field_value field.first w f) number) e ∙ ap (λ x. compared c (field_value field.first 0 f) x) z ∙ zeros c field.first f);
+      meaning = λ f. meaning_all nodes f are ∙ sym (ap (λ w. compared c (field_value field.first w f) number) e
+          ∙ ap (λ x. compared c (field_value field.first 0 f) x) z ∙ zeros c field.first f);
     }
 
-pub compared_high : (nodes new : DiagramsView) (c : Comparison) (field : Field) (number less high n : ℕ) → Grows nodes new → AreNodes nodes.nodes → 0 < field.width → 2 ^ (field.width - 1) ≤ number
-    → less ≡ cond (less_passes c) 1 0 → IsComparison nodes.nodes c (record { first = field.first + 1; width = field.width - 1 }) (number - 2 ^ (field.width - 1)) high
+pub compared_high : (nodes new : DiagramsView) (c : Comparison) (field : Field) (number less high n : ℕ) → Grows nodes new → AreNodes nodes.nodes
+    → 0 < field.width → 2 ^ (field.width - 1) ≤ number
+    → less ≡ cond (less_passes c) 1 0 → IsComparison nodes.nodes c (record { first = field.first + 1; width = field.width - 1 }) (number - 2 ^ (field.width
+    - 1)) high
     → IsJoined new.nodes field.first less high n → IsComparison new.nodes c field number n
 compared_high nodes new c field number less high n g are wide big is highs joined = record {
   below = joined.below;
@@ -107,7 +114,8 @@ compared_high nodes new c field number less high n g are wide big is highs joine
   meaning = λ f.
       let rest = field_value (field.first + 1) (field.width - 1) f in
       let two = end_below nodes.nodes (less_passes c) are in
-      let lm : meaning new.nodes less f ≡ less_passes c = ap (λ x. meaning new.nodes x f) is ∙ g.same (cond (less_passes c) 1 0) f two ∙ end_means nodes.nodes (less_passes c) f are in
+      let lm : meaning new.nodes less f ≡ less_passes c = ap (λ x. meaning new.nodes x f) is ∙ g.same (cond (less_passes c) 1 0) f two
+      ∙ end_means nodes.nodes (less_passes c) f are in
       let hm : meaning new.nodes high f ≡ compared c rest (number - 2 ^ (field.width - 1)) = g.same high f highs.below ∙ highs.meaning f in
       joined.meaning f ∙ ap (λ x. cond (f field.first) x (meaning new.nodes less f)) hm
       ∙ ap (λ x. cond (f field.first) (compared c rest (number - 2 ^ (field.width - 1))) x) lm
@@ -115,7 +123,8 @@ compared_high nodes new c field number less high n g are wide big is highs joine
       ∙ ap (λ x. compared c x number) (sym (value_split field.first field.width f wide));
 }
 
-pub compared_low : (nodes new : DiagramsView) (c : Comparison) (field : Field) (number greater low n : ℕ) → Grows nodes new → AreNodes nodes.nodes → 0 < field.width → number < 2 ^ (field.width - 1)
+pub compared_low : (nodes new : DiagramsView) (c : Comparison) (field : Field) (number greater low n : ℕ) → Grows nodes new → AreNodes nodes.nodes
+    → 0 < field.width → number < 2 ^ (field.width - 1)
     → greater ≡ cond (greater_passes c) 1 0 → IsComparison nodes.nodes c (record { first = field.first + 1; width = field.width - 1 }) number low
     → IsJoined new.nodes field.first low greater n → IsComparison new.nodes c field number n
 compared_low nodes new c field number greater low n g are wide small is lows joined = record {
@@ -124,7 +133,8 @@ compared_low nodes new c field number greater low n g are wide small is lows joi
   meaning = λ f.
       let rest = field_value (field.first + 1) (field.width - 1) f in
       let two = end_below nodes.nodes (greater_passes c) are in
-      let gm : meaning new.nodes greater f ≡ greater_passes c = ap (λ x. meaning new.nodes x f) is ∙ g.same (cond (greater_passes c) 1 0) f two ∙ end_means nodes.nodes (greater_passes c) f are in
+      let gm : meaning new.nodes greater f ≡ greater_passes c = ap (λ x. meaning new.nodes x f) is ∙ g.same (cond (greater_passes c) 1 0) f two
+      ∙ end_means nodes.nodes (greater_passes c) f are in
       let lm : meaning new.nodes low f ≡ compared c rest number = g.same low f lows.below ∙ lows.meaning f in
       joined.meaning f ∙ ap (λ x. cond (f field.first) x (meaning new.nodes low f)) gm
       ∙ ap (λ x. cond (f field.first) (greater_passes c) x) lm

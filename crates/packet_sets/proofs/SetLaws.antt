@@ -27,7 +27,8 @@ grows_keeps old new g = let l = g.longer in record {
 }
 
 pub result_means : (old new : DiagramsView) (operation : Operation) (left right : PacketSet) (n : ℕ) → Grows old new → IsSet old left → IsSet old right
-    → IsResult new.nodes operation left.node right.node n → Means new (record { node = n }) (λ packet. combined operation (holds old left packet) (holds old right packet))
+    → IsResult new.nodes operation left.node right.node n → Means new (record { node = n }) (λ packet. combined operation (holds old left packet) (holds
+    old right packet))
 result_means old new operation left right n g hl hr is = record {
   is_set = is.below;
   same = λ f. is.meaning f ∙ ap (λ x. combined operation x (meaning new.nodes right.node f)) (g.same left.node f hl)
@@ -62,13 +63,15 @@ made_step nodes l r bl br bit pl pr el er em early hl hr =
     ]
 
 -- the bit of a result, where there are more nodes
-pub later : (d a b : DiagramsView) (operation : Operation) (bit l r n : ℕ) → Grows d a → Grows a b → l < length d.nodes → r < length d.nodes → bit < bit_of d.nodes l → bit < bit_of d.nodes r
+pub later : (d a b : DiagramsView) (operation : Operation) (bit l r n : ℕ) → Grows d a → Grows a b → l < length d.nodes → r < length d.nodes
+    → bit < bit_of d.nodes l → bit < bit_of d.nodes r
     → IsResult a.nodes operation l r n → bit < bit_of b.nodes n
 later d a b operation bit l r n da ab hl hr bl br is =
     let e = ab.bits n is.below in
     let m = result_after d a operation bit l r n da hl hr bl br is in omega (arith, e, m)
 
-pub bit_means : (old new : DiagramsView) (bit n : ℕ) → AreNodes old.nodes → Grows old new → IsJoined new.nodes bit 0 1 n → Means new (record { node = n }) (λ packet. packet bit)
+pub bit_means : (old new : DiagramsView) (bit n : ℕ) → AreNodes old.nodes → Grows old new → IsJoined new.nodes bit 0 1 n
+    → Means new (record { node = n }) (λ packet. packet bit)
 bit_means old new bit n are g is =
     let two = are.ends in
     record {

@@ -1,5 +1,6 @@
 -- Walks over nodes.
-use Rattle.std.proofs.Common.{◌≡◌, ◌≢◌, ◌∙◌, ◌==◌, ◌-◌, ◌^◌, ℕ, zero, suc, ◌<◌, ◌≤◌, ◌++◌, ◌∷◌, [], List, length, Bool, true, false, cond, refl, ap, sym, subst, arith, get_or, inl, inr}
+use Rattle.std.proofs.Common.{◌≡◌, ◌≢◌, ◌∙◌, ◌==◌, ◌-◌, ◌^◌, ℕ, zero, suc, ◌<◌, ◌≤◌, ◌++◌, ◌∷◌, []}
+use Rattle.std.proofs.Common.{List, length, Bool, true, false, cond, refl, ap, sym, subst, arith, get_or, inl, inr}
 use Rattle.std.proofs.lemmas.List.{get_or_append_left, get_or_push, get_or_read, length_push}
 use Rattle.std.proofs.lemmas.Bool.{cases_lt}
 use Rattle.packet_sets.specs.declared.branch.Branch.{Branch}
@@ -8,7 +9,8 @@ use Rattle.packet_sets.specs.steps.Nodes.{AreNodes, Grows, IsBranch, IsJoined, I
 
 -- ---- one step
 
-pub next_at : (nodes : List Branch) (n bit low high : ℕ) (f : ℕ → Bool) → branch_at nodes n ≡ record { bit = bit; low = low; high = high } → next_node nodes n f ≡ cond (f bit) high low
+pub next_at : (nodes : List Branch) (n bit low high : ℕ) (f : ℕ → Bool) → branch_at nodes n ≡ record { bit = bit; low = low; high = high }
+    → next_node nodes n f ≡ cond (f bit) high low
 unfolding next_node
 next_at nodes n bit low high f e = rw e refl
 
@@ -53,7 +55,8 @@ enough (suc k) (suc j) nodes n f are below hk hj = elim (cases_lt n 2) [
 ]
 
 -- a packet is in a node's set where it is in that of the node at which its walk goes on
-next-inner : (nodes : List Branch) (n : ℕ) (f : ℕ → Bool) → AreNodes nodes → 2 ≤ n → n < length nodes → meaning nodes n f ≡ meaning nodes (next_node nodes n f) f
+next-inner : (nodes : List Branch) (n : ℕ) (f : ℕ → Bool) → AreNodes nodes → 2 ≤ n → n < length nodes
+    → meaning nodes n f ≡ meaning nodes (next_node nodes n f) f
 unfolding meaning walk
 next-inner nodes zero f are h below = absurd (omega arith)
 next-inner nodes (suc n) f are h below =
@@ -69,7 +72,8 @@ meaning_next nodes n f are below = elim (cases_lt n 2) [
 cond-meaning : (nodes : List Branch) (b : Bool) (x y : ℕ) (f : ℕ → Bool) → meaning nodes (cond b x y) f ≡ cond b (meaning nodes x f) (meaning nodes y f)
 cond-meaning nodes b x y f = elim b as (λ v. meaning nodes (cond v x y) f ≡ cond v (meaning nodes x f) (meaning nodes y f)) [ true ↦ refl | false ↦ refl ]
 
-pub meaning_at : (nodes : List Branch) (n bit low high : ℕ) (f : ℕ → Bool) → AreNodes nodes → n < length nodes → branch_at nodes n ≡ record { bit = bit; low = low; high = high }
+pub meaning_at : (nodes : List Branch) (n bit low high : ℕ) (f : ℕ → Bool) → AreNodes nodes → n < length nodes
+    → branch_at nodes n ≡ record { bit = bit; low = low; high = high }
     → meaning nodes n f ≡ cond (f bit) (meaning nodes high f) (meaning nodes low f)
 meaning_at nodes n bit low high f are below e =
     meaning_next nodes n f are below ∙ ap (λ x. meaning nodes x f) (next_at nodes n bit low high f e) ∙ cond-meaning nodes (f bit) high low f
@@ -84,14 +88,16 @@ meaning_all nodes f are = rw (stays nodes 1 f are (omega arith)) refl
 
 -- ---- more nodes
 
-walk-grows : (k : ℕ) (old new : List Branch) (n : ℕ) (f : ℕ → Bool) → AreNodes old → ((i : ℕ) → i < length old → branch_at new i ≡ branch_at old i) → n < length old → walk k new n f ≡ walk k old n f
+walk-grows : (k : ℕ) (old new : List Branch) (n : ℕ) (f : ℕ → Bool) → AreNodes old → ((i : ℕ) → i < length old → branch_at new i ≡ branch_at old i)
+    → n < length old → walk k new n f ≡ walk k old n f
 unfolding walk next_node
 walk-grows zero old new n f are same below = refl
 walk-grows (suc k) old new n f are same below =
     let l = next-most old n f are below in
     rw (same n below) (walk-grows k old new (next_node old n f) f are same (omega arith))
 
-pub meaning_grows : (old new : List Branch) (n : ℕ) (f : ℕ → Bool) → AreNodes old → ((i : ℕ) → i < length old → branch_at new i ≡ branch_at old i) → n < length old → meaning new n f ≡ meaning old n f
+pub meaning_grows : (old new : List Branch) (n : ℕ) (f : ℕ → Bool) → AreNodes old → ((i : ℕ) → i < length old → branch_at new i ≡ branch_at old i)
+    → n < length old → meaning new n f ≡ meaning old n f
 unfolding meaning
 meaning_grows old new n f are same below = ap (λ x. x == 1) (walk-grows n old new n f are same below)
 
@@ -102,7 +108,8 @@ end_at nodes zero are h = ap (λ x. x.bit) are.none
 end_at nodes (suc zero) are h = ap (λ x. x.bit) are.all
 end_at nodes (suc (suc n)) are h = absurd (omega arith)
 
-own_part : (items nodes : List Branch) (node bit : ℕ) (b : Branch) → items ≡ nodes → AreNodes items → node < length items → bit < 2 ^ 32 - 1 → branch_at items node ≡ b → b.bit ≡ bit → IsPart nodes node bit b
+own_part : (items nodes : List Branch) (node bit : ℕ) (b : Branch) → items ≡ nodes → AreNodes items → node < length items → bit < 2 ^ 32 - 1
+    → branch_at items node ≡ b → b.bit ≡ bit → IsPart nodes node bit b
 own_part items nodes node bit b v are below early at own = subst (λ xs. IsPart xs node bit b) v (elim (cases_lt node 2) [
   | inl h ↦ let l = end_at items node are h in let o = ap (λ x. x.bit) at ∙ own in absurd (omega arith)
   | inr h ↦
@@ -115,12 +122,14 @@ own_part items nodes node bit b v are below early at own = subst (λ xs. IsPart 
         high_less = λ _. i.high_before;
         low_after = subst (λ x. x < bit_of items (branch_at items node).low) (ap (λ x. x.bit) at ∙ own) i.low_after;
         high_after = subst (λ x. x < bit_of items (branch_at items node).high) (ap (λ x. x.bit) at ∙ own) i.high_after;
-        meaning = λ f. subst (λ x. meaning items node f ≡ cond (f x) (meaning items (branch_at items node).high f) (meaning items (branch_at items node).low f)) (ap (λ x. x.bit) at ∙ own)
+        meaning = λ f. subst (λ x. meaning items node f ≡ cond (f x) (meaning items (branch_at items node).high f) (meaning items (branch_at items
+            node).low f)) (ap (λ x. x.bit) at ∙ own)
             (meaning_at items node _ _ _ f are below refl);
       })
 ])
 
-pub part_own : (items nodes : List Branch) (node bit : ℕ) (b : Branch) → items ≡ nodes → AreNodes items → node < length nodes → bit < 2 ^ 32 - 1 → b ≡ get_or items node b → b.bit ≡ bit → IsPart nodes node bit b
+pub part_own : (items nodes : List Branch) (node bit : ℕ) (b : Branch) → items ≡ nodes → AreNodes items → node < length nodes → bit < 2 ^ 32 - 1
+    → b ≡ get_or items node b → b.bit ≡ bit → IsPart nodes node bit b
 part_own items nodes node bit b v are below early read own =
     let here : node < length items = omega (arith, ap length v) in
     let at = sym (get_or_read items node b here read (record { bit = 0; low = 0; high = 0 })) in
@@ -146,7 +155,8 @@ joined_same nodes bit low below after = record {
   meaning = λ f. sym (cond-same (f bit) (meaning nodes low f));
 }
 
-pub joined_found : (nodes : List Branch) (bit low high n : ℕ) → AreNodes nodes → n < length nodes → branch_at nodes n ≡ record { bit = bit; low = low; high = high } → IsJoined nodes bit low high n
+pub joined_found : (nodes : List Branch) (bit low high n : ℕ) → AreNodes nodes → n < length nodes
+    → branch_at nodes n ≡ record { bit = bit; low = low; high = high } → IsJoined nodes bit low high n
 joined_found nodes bit low high n are below at = record {
   below = below;
   after = omega (arith, ap (λ x. x.bit) at);
@@ -191,7 +201,8 @@ branch-kept nodes b n below i =
       differ = λ same. i.differ (sym el ∙ same ∙ eh);
     }
 
-branch-new : (nodes : List Branch) (bit low high : ℕ) → MayJoin nodes bit low high → IsBranch (nodes ++ record { bit = bit; low = low; high = high } ∷ []) (length nodes)
+branch-new : (nodes : List Branch) (bit low high : ℕ) → MayJoin nodes bit low high
+    → IsBranch (nodes ++ record { bit = bit; low = low; high = high } ∷ []) (length nodes)
 branch-new nodes bit low high may =
     let b : Branch = record { bit = bit; low = low; high = high } in
     let new = nodes ++ b ∷ [] in
@@ -211,7 +222,8 @@ branch-new nodes bit low high may =
       differ = λ same. may.differ (sym el ∙ same ∙ eh);
     }
 
-pub nodes_more : (nodes : List Branch) (bit low high : ℕ) → AreNodes nodes → MayJoin nodes bit low high → AreNodes (nodes ++ record { bit = bit; low = low; high = high } ∷ [])
+pub nodes_more : (nodes : List Branch) (bit low high : ℕ) → AreNodes nodes → MayJoin nodes bit low high
+    → AreNodes (nodes ++ record { bit = bit; low = low; high = high } ∷ [])
 nodes_more nodes bit low high are may =
     let b : Branch = record { bit = bit; low = low; high = high } in
     let long = length_push nodes b in
@@ -240,7 +252,8 @@ grows_more nodes limit bit low high are =
       same = λ n f h. meaning_grows nodes (nodes ++ b ∷ []) n f are (λ i below. kept-branch nodes b i below) h;
     }
 
-pub joined_more : (nodes : List Branch) (bit low high : ℕ) → AreNodes nodes → MayJoin nodes bit low high → IsJoined (nodes ++ record { bit = bit; low = low; high = high } ∷ []) bit low high (length nodes)
+pub joined_more : (nodes : List Branch) (bit low high : ℕ) → AreNodes nodes → MayJoin nodes bit low high
+    → IsJoined (nodes ++ record { bit = bit; low = low; high = high } ∷ []) bit low high (length nodes)
 joined_more nodes bit low high are may =
     let b : Branch = record { bit = bit; low = low; high = high } in
     let long = length_push nodes b in
@@ -248,12 +261,14 @@ joined_more nodes bit low high are may =
 
 -- ---- the same, where the nodes are behind a field
 
-pub may_join : (old nodes : List Branch) (bit low high : ℕ) → nodes ≡ old → bit < 2 ^ 32 - 1 → low < length old → high < length old → bit < bit_of old low → bit < bit_of old high → low ≢ high
+pub may_join : (old nodes : List Branch) (bit low high : ℕ) → nodes ≡ old → bit < 2 ^ 32 - 1 → low < length old → high < length old
+    → bit < bit_of old low → bit < bit_of old high → low ≢ high
     → MayJoin nodes bit low high
 may_join old nodes bit low high v early l h la ha differ =
     subst (λ xs. MayJoin xs bit low high) (sym v) (record { early = early; low_below = l; high_below = h; low_after = la; high_after = ha; differ = differ })
 
-pub sound_pushed : (nodes items : List Branch) (bit low high : ℕ) → AreNodes nodes → MayJoin nodes bit low high → items ≡ nodes ++ record { bit = bit; low = low; high = high } ∷ [] → AreNodes items
+pub sound_pushed : (nodes items : List Branch) (bit low high : ℕ) → AreNodes nodes → MayJoin nodes bit low high
+    → items ≡ nodes ++ record { bit = bit; low = low; high = high } ∷ [] → AreNodes items
 sound_pushed nodes items bit low high are may e = subst (λ xs. AreNodes xs) (sym e) (nodes_more nodes bit low high are may)
 
 pub grows_pushed : (d : DiagramsView) (nodes items : List Branch) (limit bit low high : ℕ) → AreNodes nodes → record { nodes = nodes; limit = limit } ≡ d
@@ -261,14 +276,18 @@ pub grows_pushed : (d : DiagramsView) (nodes items : List Branch) (limit bit low
 grows_pushed d nodes items limit bit low high are v e =
     let to : DiagramsView = record { nodes = items; limit = limit } in
     subst (λ x. Grows x to) v
-    (subst (λ (xs : List Branch). Grows (record { nodes = nodes; limit = limit }) (record { nodes = xs; limit = limit })) (sym e) (grows_more nodes limit bit low high are))
+    (subst (λ (xs : List Branch). Grows (record { nodes = nodes; limit = limit }) (record { nodes = xs; limit = limit })) (sym e) (grows_more nodes limit
+    bit low high are))
 
-pub joined_pushed : (nodes items : List Branch) (bit low high n : ℕ) → AreNodes nodes → MayJoin nodes bit low high → items ≡ nodes ++ record { bit = bit; low = low; high = high } ∷ [] → n ≡ length nodes
+pub joined_pushed : (nodes items : List Branch) (bit low high n : ℕ) → AreNodes nodes → MayJoin nodes bit low high
+    → items ≡ nodes ++ record { bit = bit; low = low; high = high } ∷ [] → n ≡ length nodes
     → IsJoined items bit low high n
 joined_pushed nodes items bit low high n are may e m =
-    subst (λ xs. IsJoined xs bit low high n) (sym e) (subst (λ k. IsJoined (nodes ++ record { bit = bit; low = low; high = high } ∷ []) bit low high k) (sym m) (joined_more nodes bit low high are may))
+    subst (λ xs. IsJoined xs bit low high n) (sym e) (subst (λ k. IsJoined (nodes ++ record { bit = bit; low = low; high = high } ∷ []) bit low high k)
+    (sym m) (joined_more nodes bit low high are may))
 
-pub joined_read : (old nodes read : List Branch) (bit low high n : ℕ) → nodes ≡ old → read ≡ nodes → AreNodes nodes → n < length read → branch_at read n ≡ record { bit = bit; low = low; high = high }
+pub joined_read : (old nodes read : List Branch) (bit low high n : ℕ) → nodes ≡ old → read ≡ nodes → AreNodes nodes → n < length read
+    → branch_at read n ≡ record { bit = bit; low = low; high = high }
     → IsJoined old bit low high n
 joined_read old nodes read bit low high n v r are below at =
     let e = r ∙ v in

@@ -26,7 +26,9 @@ greater_passes AtMost = false
 greater_passes Equal = false
 
 -- the node of the packets whose field does; it has no bit before the field's
-pub record IsComparison (nodes : List Branch) (comparison : Comparison) (field : Field) (number n : ℕ) : Type 0 where
+pub record IsComparison (nodes : List Branch) (comparison : Comparison) (field : Field)
+    (number n : ℕ) : Type 0 where
   pub below : n < length nodes
   pub after : field.first ≤ bit_of nodes n
-  pub meaning : (packet : ℕ → Bool) → meaning nodes n packet ≡ compared comparison (field_value field.first field.width packet) number
+  pub meaning : (packet : ℕ → Bool) → meaning nodes n packet
+      ≡ compared comparison (field_value field.first field.width packet) number

@@ -31,16 +31,16 @@ pub record Grows (old new : DiagramsView) : Type 0 where
   pub same : (n : ℕ) (packet : ℕ → Bool) → n < length old.nodes
       → meaning new.nodes n packet ≡ meaning old.nodes n packet
 
--- a packet is in the node's set where it has the bit and is in high's, or hasn't it and is in low's; the node has no
--- bit before this one
+-- a packet is in the node's set where it has the bit and is in high's, or hasn't it and is in low's; the node
+-- has no bit before this one
 pub record IsJoined (nodes : List Branch) (bit low high n : ℕ) : Type 0 where
   pub below : n < length nodes
   pub after : bit ≤ bit_of nodes n
   pub meaning : (packet : ℕ → Bool) → meaning nodes n packet
       ≡ cond (packet bit) (meaning nodes high packet) (meaning nodes low packet)
 
--- where a packet goes on from a node by a bit: to high where it has it, else to low. All of these are at most the
--- node, and less where the bit is the node's own
+-- where a packet goes on from a node by a bit: to high where it has it, else to low. All of these are at most
+-- the node, and less where the bit is the node's own
 pub record IsPart (nodes : List Branch) (node bit : ℕ) (part : Branch) : Type 0 where
   pub low_most : part.low ≤ node
   pub high_most : part.high ≤ node

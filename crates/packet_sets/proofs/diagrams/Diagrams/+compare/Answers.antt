@@ -8,7 +8,8 @@ use Rattle.packet_sets.proofs.diagrams.Diagrams.+compare.Goals as goal
 
 pub returns-then-field-eq0-clause-value : goal.returns-then-field-eq0-clause-value
 returns-then-field-eq0-clause-value t c =
-    compared_none c.args.self.now.nodes c.args.comparison c.args.field c.args.number c.sound.ensures c.if-field-eq0.true (omega (arith, c.requires.field)) c.requires.number
+    compared_none c.args.self.now.nodes c.args.comparison c.args.field c.args.number c.sound.ensures c.if-field-eq0.true (omega (arith, c.requires.field))
+    c.requires.number
 
 pub compare-requires : goal.compare-requires
 compare-requires t c =
@@ -23,7 +24,8 @@ returns-in_ok-high-clause-value t c =
     let wide : 0 < c.args.field.width = omega arith in
     let half = c.pow-half.ensures in
     let rest : Field = record { first = c.args.field.first + 1; width = c.args.field.width - 1 } in
-    let highs = subst (λ (x : ℕ). IsComparison c.compare.new.self.nodes c.args.comparison rest (c.args.number - x) c.in_ok-high.high) half c.in_ok-high.ensures.value in
+    let highs = subst (λ (x : ℕ). IsComparison c.compare.new.self.nodes c.args.comparison rest (c.args.number - x) c.in_ok-high.high) half
+    c.in_ok-high.ensures.value in
     IfOk-weaker c.join.result (λ n. IsJoined c.join.new.self.nodes c.args.field.first c.less.result c.in_ok-high.high n)
     (λ n. IsComparison c.join.new.self.nodes c.args.comparison c.args.field c.args.number n)
     (λ n is. compared_high c.compare.new.self c.join.new.self c.args.comparison c.args.field c.args.number c.less.result c.in_ok-high.high n
@@ -39,5 +41,6 @@ returns-in_ok-low-clause-value t c =
     IfOk-weaker c.join-else-number-half.result (λ n. IsJoined to.nodes c.args.field.first c.in_ok-low.low c.greater.result n)
     (λ n. IsComparison to.nodes c.args.comparison c.args.field c.args.number n)
     (λ n is. compared_low at to c.args.comparison c.args.field c.args.number c.greater.result c.in_ok-low.low n
-    c.join-else-number-half.ensures.grows c.sound-else-number-half.ensures wide (omega (arith, half, c.if-number-half.false)) c.greater.ensures c.in_ok-low.ensures.value is)
+    c.join-else-number-half.ensures.grows c.sound-else-number-half.ensures wide (omega (arith, half, c.if-number-half.false)) c.greater.ensures
+    c.in_ok-low.ensures.value is)
     c.join-else-number-half.ensures.joined

@@ -13,12 +13,14 @@ loop-at-init c =
 
 pub loop-at-preserved-then-branch-eq0 : goal.loop-at-preserved-then-branch-eq0
 loop-at-preserved-then-branch-eq0 c =
-    high_read c.args.self.now.nodes c.args.set.node c.loop-at.at c.loop-at.bits.items c.push.new.self.items c.branch-branch.result c.sound.ensures c.loop-at-test.true c.loop-at.invariant
+    high_read c.args.self.now.nodes c.args.set.node c.loop-at.at c.loop-at.bits.items c.push.new.self.items c.branch-branch.result c.sound.ensures
+    c.loop-at-test.true c.loop-at.invariant
     c.branch-branch.ensures c.in_ok-push.ensures.items c.if-branch-eq0.true
 
 pub loop-at-preserved : goal.loop-at-preserved
 loop-at-preserved c =
-    low_read c.args.self.now.nodes c.args.set.node c.loop-at.at c.loop-at.bits.items c.branch-branch.result c.sound.ensures c.loop-at-test.true c.loop-at.invariant
+    low_read c.args.self.now.nodes c.args.set.node c.loop-at.at c.loop-at.bits.items c.branch-branch.result c.sound.ensures c.loop-at-test.true
+    c.loop-at.invariant
     c.branch-branch.ensures c.if-branch-eq0.false
 
 pub returns-clause-some : goal.returns-clause-some

@@ -6,5 +6,6 @@ returns-in_err-most-clause-keeps c = keeps_trans c.args.self.now c.at_least.new.
 
 pub returns-clause-keeps : goal.returns-clause-keeps
 returns-clause-keeps c =
-    keeps_trans c.args.self.now c.at_most.new.self c.and.new.self (keeps_trans c.args.self.now c.at_least.new.self c.at_most.new.self c.in_ok-least.ensures.keeps c.in_ok-most.ensures.keeps)
+    keeps_trans c.args.self.now c.at_most.new.self c.and.new.self (keeps_trans c.args.self.now c.at_least.new.self c.at_most.new.self
+    c.in_ok-least.ensures.keeps c.in_ok-most.ensures.keeps)
     c.and.ensures.keeps
