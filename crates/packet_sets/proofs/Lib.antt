@@ -1,0 +1,5 @@
+pub mod Examples
+pub mod FieldLaws
+pub mod Results
+pub mod SetLaws
+pub mod Walks
