@@ -8,7 +8,9 @@ from dataclasses import dataclass, replace
 from typing import TYPE_CHECKING, Iterator, Sequence, Tuple
 
 from toolbox.captures import LINK_LENGTHS, LINUX_SLL2, records
-from toolbox.packets import ANSWER, ASK, TCP, UDP, address_text, describe, inverse, without_ports
+from toolbox.packets import (
+    ECHOES, PORTED, PROTOCOL_NAMES, TCP, UDP, address_text, describe, inverse, service_kind, service_of, service_port,
+    source_of, without_ports)
 from toolbox.replay import ELSEWHERE, LOCAL, NOT_SENT, PASSED
 from toolbox.reports import Decision, event_of, events_of_some
 from toolbox.rulesets import TRANSLATIONS, read_ruleset
@@ -182,7 +184,7 @@ class Group:
         self.hosts: set[bytes] = set()
         self.ports: Counter[bytes] = Counter()
         self.ranges: list[list[int]] = []
-        self.filtered: set[bytes] = set()  # destination ports and kinds, on both sides of a translation
+        self.filtered: set[bytes] = set()  # services, on both sides of a translation
 
     def take(self, record: int, begins: bool, key: bytes | None) -> None:
         """Takes a record whose flow has the tuple `key`, as its first packet, or none."""
@@ -190,11 +192,11 @@ class Group:
         self.flows += begins
         if key is not None:
             if begins and len(self.hosts) < MOST_TOLD_APART:
-                self.hosts.add(key[:4])
+                self.hosts.add(source_of(key))
             if begins and len(self.ports) < MOST_TOLD_APART:
-                self.ports[key[10:]] += 1
+                self.ports[service_of(key)] += 1
             if len(self.filtered) < MOST_TOLD_APART:
-                self.filtered.add(key[10:])
+                self.filtered.add(service_of(key))
         if self.ranges and self.ranges[-1][1] == record - 1:
             self.ranges[-1][1] = record
         elif len(self.ranges) <= MOST_RANGES:
@@ -208,7 +210,7 @@ class Group:
     def ports_text(self) -> list[tuple[str, int]]:
         """[("tcp 443", 12), ..], the most frequent first"""
         by_number = sorted(self.ports.items(), key=lambda one: (-one[1], one[0]))
-        ports = ((port_text(end), number) for end, number in by_number)
+        ports = ((port_text(service), number) for service, number in by_number)
         return [one for one in ports if one[0]]
 
     def display_filter(self) -> str:
@@ -218,7 +220,7 @@ class Group:
             return "frame.number in {" + ", ".join(numbers) + "}"
         pieces: list[str] = []
         for name, kind in (("tcp", TCP), ("udp", UDP)):
-            ports = [str(int.from_bytes(end[:2], "big")) for end in sorted(self.filtered) if end[2] == kind]
+            ports = [str(service_port(one)) for one in sorted(self.filtered) if service_kind(one) == kind]
             if 0 < len(ports) <= MOST_IN_FILTER:
                 pieces.append(f"{name}.port in {{{', '.join(ports)}}}")
         hosts = ", ".join(map(address_text, sorted(self.hosts)))
@@ -226,12 +228,12 @@ class Group:
         return " && ".join(whose + ([f"({' || '.join(pieces)})"] if pieces else [])) or "ip"
 
 
-def port_text(end: bytes) -> str:
-    """tcp 443, of 3 bytes: port and kind"""
-    kind = end[2]
-    if kind in (TCP, UDP):
-        return f"{'tcp' if kind == TCP else 'udp'} {int.from_bytes(end[:2], 'big')}"
-    return "ping" if kind in (ASK[0], ANSWER[0]) else f"protocol {kind}"
+def port_text(service: bytes) -> str:
+    """tcp 443"""
+    kind = service_kind(service)
+    if kind in PORTED:
+        return f"{PROTOCOL_NAMES[kind]} {service_port(service)}"
+    return "ping" if kind in ECHOES else f"protocol {kind}"
 
 
 class Groups:

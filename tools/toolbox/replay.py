@@ -17,7 +17,7 @@ from toolbox import program
 from toolbox.captures import LINK_LENGTHS, LINUX_SLL2, OTHER_STATION, RAW_IP, called, header_of, pieces, records
 from toolbox.commands import Refused
 from toolbox.flows import ERROR, OPENER, OTHER, SYN_ACK
-from toolbox.packets import PORTED, TCP, USUAL_HEADER, destination_end, inverse, source_end, tuple_at, with_destination
+from toolbox.packets import TCP, destination_end, inverse, sent_tuples, source_end, with_destination
 from toolbox.reports import outcomes_of
 
 if TYPE_CHECKING:
@@ -189,12 +189,8 @@ def silence(file: int, offset: int, link_type: int) -> None:
 
 def left_tuples(path: str) -> Iterator[bytes | None]:
     """The tuple of each packet that a run sent, or None. A run sends no fragments."""
-    header, protocol, ends = OUT_LINK, OUT_LINK + 9, OUT_LINK + 12
     for piece, _, starts, _ in pieces(path):
-        yield from [
-            piece[at + ends:at + ends + 12] + piece[at + protocol:at + protocol + 1]
-            if piece[at + header] == USUAL_HEADER and piece[at + protocol] in PORTED
-            else tuple_at(piece[at:at + OUT_LINK + 108], OUT_LINK) for at in starts]
+        yield from sent_tuples(piece, starts, OUT_LINK, OUT_LINK + 108)
 
 
 class Decisions:
