@@ -5,13 +5,14 @@ import filecmp
 from array import array
 from collections import Counter
 from dataclasses import dataclass, replace
+from enum import IntEnum
 from typing import TYPE_CHECKING, Iterator, Sequence, Tuple
 
 from toolbox.captures import LINK_LENGTHS, LINUX_SLL2, records
 from toolbox.packets import (
     ECHOES, PORTED, PROTOCOL_NAMES, TCP, UDP, address_text, describe, inverse, service_kind, service_of, service_port,
     source_of, without_ports)
-from toolbox.replay import ELSEWHERE, LOCAL, NOT_SENT, PASSED
+from toolbox.replay import LOCAL, NOT_SENT, PASSED, Cut
 from toolbox.reports import Decision, event_of, events_of_some
 from toolbox.rulesets import TRANSLATIONS, read_ruleset
 
@@ -21,9 +22,23 @@ if TYPE_CHECKING:
     from toolbox.rulemap import RuleMap
 
 OPENED, BLOCKED, REWRITTEN, OTHERWISE = "opened", "blocked", "rewritten only", "dropped otherwise"
-# The last: what leaves differs in ports alone, as a tracker chooses them
-KINDS = ("", OPENED, BLOCKED, REWRITTEN, OTHERWISE, REWRITTEN)
-OTHER_PORTS = 5
+
+
+class Differs(IntEnum):
+    """How a record differs, as a column has it. Of other ports what leaves differs in ports alone, as a tracker chooses
+    them."""
+
+    NOT = 0
+    OPENED = 1
+    BLOCKED = 2
+    REWRITTEN = 3
+    OTHERWISE = 4
+    OTHER_PORTS = 5
+
+
+KINDS: dict[int, str] = {
+    Differs.OPENED: OPENED, Differs.BLOCKED: BLOCKED, Differs.REWRITTEN: REWRITTEN, Differs.OTHERWISE: OTHERWISE,
+    Differs.OTHER_PORTS: REWRITTEN}
 SAME_RULES = "translated by the same rules, to other ports, since other flows have them or leave them"
 SAME_RULES_OTHER_MAPS = "the same rules, to another address or interface, as their maps or an earlier mapping have it"
 OUT_LINK = LINK_LENGTHS[LINUX_SLL2]
@@ -83,7 +98,7 @@ class Sight:
 
 
 def differing(old: Replay, new: Replay) -> bytearray:
-    """Of each record how the replays differ, as the place in KINDS; 0: not at all."""
+    """Of each record how the replays differ, one of Differs."""
     count = len(old.to) - 1
     what = bytearray(count + 1)
     if (old.outcomes == new.outcomes and old.to == new.to and old.names == new.names
@@ -96,15 +111,16 @@ def differing(old: Replay, new: Replay) -> bytearray:
         after = is_sent_now and new_places[new.outcomes[record]]
         if before and after:
             if left != leaves or before != after:
-                what[record] = OTHER_PORTS if before == after and are_alike_but_ports(left, leaves) else 3
+                has_other_ports = before == after and are_alike_but_ports(left, leaves)
+                what[record] = Differs.OTHER_PORTS if has_other_ports else Differs.REWRITTEN
         elif after:
-            what[record] = 1
+            what[record] = Differs.OPENED
         elif before:
-            what[record] = 2
+            what[record] = Differs.BLOCKED
         elif is_sent != is_sent_now:
-            what[record] = 4
+            what[record] = Differs.OTHERWISE
         elif is_sent and old.numbers[old.outcomes[record]] != new.numbers[new.outcomes[record]]:
-            what[record] = 4
+            what[record] = Differs.OTHERWISE
     return what
 
 
@@ -245,8 +261,9 @@ class Groups:
         self.by_key: dict[tuple[str, Told, Told], Group] = {}
         self.causes: dict[tuple[int, Made], tuple[Told, Told]] = {}
         self.flow_counts: Counter[str] = Counter()
-        # of each flow its last group (from 1) and the kinds it is in; and what is in several groups
-        self.last, self.kinds = array("I", bytes(4 * len(flows.all))), bytearray(len(flows.all))
+        # of each flow its last group (from 1); by kind the flows that are in a group of it; what is in several groups
+        self.last = array("I", bytes(4 * len(flows.all)))
+        self.having: dict[str, set[int]] = {kind: set() for kind in KINDS.values()}
         self.several: set[tuple[int, int]] = set()
 
     def each(self) -> Iterator[tuple[int, bytes, Group]]:
@@ -276,7 +293,7 @@ class Groups:
         if not flow and len(data) >= self.flows_of.at + 20 and len(group.hosts) < MOST_TOLD_APART:
             group.hosts.add(data[self.flows_of.at + 12:self.flows_of.at + 16])
         group.not_sent += bool(unsent)
-        group.elsewhere += any(one.cut[flow] == ELSEWHERE for one in unsent)
+        group.elsewhere += any(one.cut[flow] == Cut.ELSEWHERE for one in unsent)
         return group
 
     def cause_of(self, what: int, made: Made) -> tuple[Told, Told]:
@@ -285,7 +302,7 @@ class Groups:
             before, after = (
                 [told for told in map(sight.told, events) if told] for sight, events in zip(self.sights, made[:2]))
             found = cause(KINDS[what], before, after, *made[2:])
-            if what == OTHER_PORTS and translations(before) == translations(after):
+            if what == Differs.OTHER_PORTS and translations(before) == translations(after):
                 found = (Told(None, None, made[3], SAME_RULES),) * 2
             elif found[0].text == SAME_RULES:
                 found = (replace(found[0], text=SAME_RULES_OTHER_MAPS),) * 2
@@ -294,11 +311,11 @@ class Groups:
 
     def begins(self, flow: int, group: Group) -> bool:
         """Whether the group hasn't had this flow; a record of none is a flow of its own."""
-        bit = 1 << KINDS.index(group.kind)
-        self.flow_counts[group.kind] += not (flow and self.kinds[flow] & bit)
+        having = self.having[group.kind]
+        self.flow_counts[group.kind] += flow not in having
         if not flow:
             return True
-        self.kinds[flow] |= bit
+        having.add(flow)
         before, self.last[flow] = self.last[flow], group.number
         if before in (0, group.number):
             return before == 0
