@@ -15,7 +15,7 @@ from fit.profile import takes
 from fit.scanner import Refused, scan, shown, slice_of, spelled
 from fit.statements import RuleReader
 from toolbox import rulemap
-from toolbox.lexer import Source, Token
+from toolbox.lexer import Kind, Source, Token
 
 
 def tokens(text: str) -> list[Token]:
@@ -28,7 +28,7 @@ def statements(text: str) -> list[tree.What]:
 
 
 def one(text: str) -> tree.One:
-    kind = "address" if "." in text else "number" if text.isdigit() else "word"
+    kind = Kind.ADDRESS if "." in text else Kind.NUMBER if text.isdigit() else Kind.WORD
     return tree.One(tree.Value(kind, text))
 
 
@@ -37,9 +37,9 @@ class Scanning(unittest.TestCase):
         text = 'ip saddr 10.0.0.1 2001:db8::1 02:00:00:00:00:01 5m "x" $y eth* 0x1f <<'
         found = [(it.kind, it.text) for it in tokens(text)]
         self.assertEqual(found, [
-            ("word", "ip"), ("word", "saddr"), ("address", "10.0.0.1"), ("six", "2001:db8::1"),
-            ("mac", "02:00:00:00:00:01"), ("time", "5m"), ("string", '"x"'), ("variable", "$y"), ("wild", "eth*"),
-            ("number", "0x1f"), ("mark", "<<")])
+            (Kind.WORD, "ip"), (Kind.WORD, "saddr"), (Kind.ADDRESS, "10.0.0.1"), (Kind.SIX, "2001:db8::1"),
+            (Kind.MAC, "02:00:00:00:00:01"), (Kind.TIME, "5m"), (Kind.STRING, '"x"'), (Kind.VARIABLE, "$y"),
+            (Kind.WILD, "eth*"), (Kind.NUMBER, "0x1f"), (Kind.MARK, "<<")])
 
     def test_lines_and_places(self) -> None:
         found = tokens("a # b\n\\\n  c")
@@ -76,7 +76,7 @@ class Reading(unittest.TestCase):
         joined = ExpressionReader(tokens("ip saddr . tcp dport")).operand()
         self.assertEqual(joined, tree.Joined((tree.Selector("ip saddr"), tree.Selector("tcp dport"))))
         masked = ExpressionReader(tokens("meta mark and 0xff")).operand()
-        mask = tree.One(tree.Value("number", "0xff"))
+        mask = tree.One(tree.Value(Kind.NUMBER, "0xff"))
         self.assertEqual(masked, tree.Calculation("&", tree.Selector("meta mark"), mask))
         self.assertEqual([it.name for it in tree.selectors_in(joined)], ["ip saddr", "tcp dport"])
 

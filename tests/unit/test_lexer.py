@@ -7,7 +7,7 @@ import unittest
 from dataclasses import dataclass
 
 import support  # noqa: F401
-from toolbox.lexer import UNKNOWN, tokens_of
+from toolbox.lexer import Kind, tokens_of
 
 SEED, TEXTS, LENGTH = 1, 300, 40
 # what separates tokens and is none, and how many lines it has
@@ -23,7 +23,7 @@ STRINGS = ('""', '"eth0"', '"a # b; { c"', '"\u00e9 \\"')
 class Wanted:
     """A token that has to be found, and where."""
 
-    kind: str
+    kind: Kind
     text: str
     line: int
     start: int
@@ -35,15 +35,15 @@ def drawn(chance: random.Random) -> tuple[str, list[Wanted]]:
     wanted: list[Wanted] = []
     for _ in range(LENGTH):
         kind, spellings = chance.choice((
-            ("word", WORDS), ("number", NUMBERS), ("address", ADDRESSES), ("string", STRINGS), ("mark", PUNCTUATION),
-            ("newline", ("\n",))))
+            (Kind.WORD, WORDS), (Kind.NUMBER, NUMBERS), (Kind.ADDRESS, ADDRESSES), (Kind.STRING, STRINGS),
+            (Kind.MARK, PUNCTUATION), (Kind.NEWLINE, ("\n",))))
         spelling = chance.choice(spellings)
         wanted.append(Wanted(kind, spelling, line, len(text)))
         text += spelling
-        line += kind == "newline"
+        line += kind is Kind.NEWLINE
         if chance.random() < 0.1:
             text += " # a comment: 1 { \" ;"
-            wanted.append(Wanted("newline", "\n", line, len(text)))
+            wanted.append(Wanted(Kind.NEWLINE, "\n", line, len(text)))
             text, line = text + "\n", line + 1
         blank = chance.choice(list(BLANKS))
         text, line = text + blank, line + BLANKS[blank]
@@ -78,17 +78,18 @@ class Lexing(unittest.TestCase):
 
     def test_what_begins_no_token(self) -> None:
         for text in ('"open', "\u00e9", "\\"):
-            self.assertEqual(tokens_of(text)[0].kind, UNKNOWN, text)
+            self.assertEqual(tokens_of(text)[0].kind, Kind.UNKNOWN, text)
 
     def test_what_nft_has_beside(self) -> None:
-        kinds = {"fe80::1": "six", "02:00:00:00:01:02": "mac", "1h30m": "time", "eth*": "wild", "$net": "variable"}
+        kinds = {"fe80::1": Kind.SIX, "02:00:00:00:01:02": Kind.MAC, "1h30m": Kind.TIME, "eth*": Kind.WILD,
+                 "$net": Kind.VARIABLE}
         self.assertEqual({text: [one.kind for one in tokens_of(text)] for text in kinds},
                          {text: [kind] for text, kind in kinds.items()})
         self.assertEqual([one.text for one in tokens_of("22:8080:1")], ["22", ":", "8080", ":", "1"])
 
     def test_what_stands_before_a_token(self) -> None:
         text = "a b\n c,d # e\nf\\\ng"
-        parted = [one.text for one in tokens_of(text) if one.is_parted and one.kind != "newline"]
+        parted = [one.text for one in tokens_of(text) if one.is_parted and one.kind is not Kind.NEWLINE]
         self.assertEqual(parted, ["b", "c", "f", "g"])
 
 

@@ -37,6 +37,25 @@ class Tuples(unittest.TestCase):
             self.assertEqual(packets.tuple_at(packet(name), 0), key, name)
             self.assertEqual(packets.tuple_at(bytes(20) + packet(name), 20), key, name)
 
+    def test_parts(self) -> None:
+        key, ping, pong = TUPLES["TCP_SYN"], TUPLES["ECHO_REQUEST"], TUPLES["ECHO_REPLY"]
+        assert key and ping and pong
+        self.assertEqual([packets.kind_of(one) for one in (key, ping, pong)], [6, 1, 255])
+        self.assertEqual((packets.source_of(key), packets.destination_of(key)), (HOST, SERVER))
+        self.assertEqual((packets.source_port(key), packets.destination_port(key)), (40000, 443))
+        self.assertEqual([packets.identifier_of(one) for one in (ping, pong)], [0x77, 0x77])
+        end, service = packets.source_end(key), packets.service_of(key)
+        self.assertEqual((packets.address_of(end), packets.port_of(end)), (HOST, 40000))
+        self.assertEqual((packets.service_port(service), packets.service_kind(service)), (443, 6))
+
+    def test_what_a_run_sent(self) -> None:
+        names = [name for name in TUPLES if name != "FRAGMENT"]  # a run sends none
+        piece, starts = b"", []
+        for name in names:
+            starts.append(len(piece))
+            piece += bytes(20) + packet(name)
+        self.assertEqual(packets.sent_tuples(piece, starts, 20, 128), [TUPLES[name] for name in names])
+
     def test_headers_that_do_not_fit(self) -> None:
         for name in ("TCP_SYN", "UDP", "ECHO_REQUEST", "TCP_WITH_OPTIONS"):
             header = 4 * (packet(name)[0] & 15)

@@ -6,7 +6,7 @@ import os
 from typing import TYPE_CHECKING, Mapping, Sequence, TypeVar
 
 import toolbox.commands
-from toolbox.lexer import Source, Token
+from toolbox.lexer import Kind, Source, Token
 
 from .dynamic import BOUNDS
 from .expressions import ExpressionReader, as_number
@@ -60,7 +60,7 @@ class Commands:
         return self.tokens[index] if index < len(self.tokens) else END
 
     def has(self, *texts: str) -> bool:
-        return self.peek().kind in ("word", "mark") and self.peek().text in texts
+        return self.peek().kind in (Kind.WORD, Kind.MARK) and self.peek().text in texts
 
     def skip(self, *texts: str) -> bool:
         if self.has(*texts):
@@ -70,7 +70,7 @@ class Commands:
 
     def take(self, *texts: str) -> Token:
         token = self.peek()
-        if token.kind == "end":
+        if token.kind is Kind.END:
             raise self.torn()
         if texts and token.text not in texts:
             raise refuse(token, f"`{spoken(token)}` where `{texts[0]}` is wanted")
@@ -81,27 +81,27 @@ class Commands:
         return refuse(self.tokens[-1] if self.tokens else END, "the text ends too early")
 
     def end(self) -> bool:
-        if self.peek().kind == "newline" or self.has(";"):
+        if self.peek().kind is Kind.NEWLINE or self.has(";"):
             self.at += 1
             return True
         return False
 
     def name(self) -> str:
         token = self.take()
-        if token.kind == "variable":
+        if token.kind is Kind.VARIABLE:
             token = self.expanded([token])[0]
-        if token.kind not in ("word", "string"):
+        if token.kind not in (Kind.WORD, Kind.STRING):
             raise refuse(token, f"`{spoken(token)}` is no name")
         return token.text.strip('"')
 
     def to_end(self) -> list[Token]:
         """The tokens up to the end of a rule or a line, with definitions put in."""
         taken, depth = [], 0
-        while self.peek().kind != "end":
+        while self.peek().kind is not Kind.END:
             token = self.peek()
-            if depth == 0 and (token.kind == "newline" or token.kind == "mark" and token.text in ";}"):
+            if depth == 0 and (token.kind is Kind.NEWLINE or token.kind is Kind.MARK and token.text in ";}"):
                 break
-            if token.kind == "mark":
+            if token.kind is Kind.MARK:
                 depth += (token.text in "{(") - (token.text in "})")
             taken.append(token)
             self.at += 1
@@ -111,7 +111,7 @@ class Commands:
     def expanded(self, tokens: Sequence[Token]) -> list[Token]:
         out = []
         for token in tokens:
-            if token.kind != "variable":
+            if token.kind is not Kind.VARIABLE:
                 out.append(token)
                 continue
             if token.text[1:] not in self.variables:
@@ -124,7 +124,7 @@ class Commands:
 
     def command(self) -> None:
         token = self.peek()
-        word = token.text if token.kind == "word" else ""
+        word = token.text if token.kind is Kind.WORD else ""
         if word in DEFINITIONS:
             self.definition()
         elif word in ("flush", "delete", "destroy", "rename"):
@@ -172,7 +172,7 @@ class Commands:
             self.read(path)
 
     def family(self) -> str:
-        if self.peek().text in FAMILIES and self.peek(1).kind in ("word", "string", "variable"):
+        if self.peek().text in FAMILIES and self.peek(1).kind in (Kind.WORD, Kind.STRING, Kind.VARIABLE):
             return self.take().text
         return "ip"
 
@@ -331,7 +331,7 @@ class Commands:
         elif self.skip("comment"):
             table.notes.append(self.take().text)
         elif self.skip("flags"):
-            flags = [it.text for it in self.to_end() if it.kind == "word"]
+            flags = [it.text for it in self.to_end() if it.kind is Kind.WORD]
             table.is_dormant |= "dormant" in flags
             self.changes.tell(
                 token, Grade.SAME, f"flags {', '.join(flags)}", "left out", "they change no packet, but for `dormant`"
@@ -394,7 +394,7 @@ class Commands:
             self.definition()
         else:
             tokens = self.to_end()
-            if self.peek().kind == "end":
+            if self.peek().kind is Kind.END:
                 raise self.torn()
             if not tokens:
                 raise refuse(self.peek(), f"`{spoken(self.peek())}` isn't understood in a chain")
@@ -422,7 +422,7 @@ class Commands:
                 if (
                     is_new
                     and line is not None
-                    and not any(it.kind == "variable" for it in self.tokens[start : self.at])
+                    and not any(it.kind is Kind.VARIABLE for it in self.tokens[start : self.at])
                 ):
                     found.slices.append(line)
                 else:
@@ -431,7 +431,7 @@ class Commands:
     def size(self) -> int:
         token = self.take()
         try:
-            if token.kind != "number":
+            if token.kind is not Kind.NUMBER:
                 raise NotFitted("a number is wanted")
             return as_number(token.text)
         except NotFitted as fault:
@@ -445,7 +445,7 @@ class Commands:
         elif word == "typeof":
             found.typeof = self.to_end()
         elif word == "flags":
-            found.flags = [it.text for it in self.to_end() if it.kind == "word"]
+            found.flags = [it.text for it in self.to_end() if it.kind is Kind.WORD]
         elif word in ("timeout", "gc-interval"):
             found.timeout |= word == "timeout"
             found.words += [word, *(it.text for it in self.to_end())]
@@ -501,4 +501,4 @@ def read_text(path: str) -> str:
 
 def spoken(token: Token) -> str:
     """A token in a message: a newline is named."""
-    return "the end of the line" if token.kind == "newline" else token.text
+    return "the end of the line" if token.kind is Kind.NEWLINE else token.text

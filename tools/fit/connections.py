@@ -4,6 +4,8 @@ from __future__ import annotations
 
 from typing import Sequence
 
+from toolbox.lexer import Kind
+
 from .draft import Draft
 from .facts import WORDS
 from .grades import Grade
@@ -20,7 +22,7 @@ def bits_of(right: Expression) -> list[str]:
         return [word for it in right.items for word in bits_of(it)]
     if isinstance(right, Calculation) and right.operator == "|":
         return bits_of(right.left) + bits_of(right.right)
-    if isinstance(right, One) and right.value.kind == "word":
+    if isinstance(right, One) and right.value.kind is Kind.WORD:
         return [right.value.text]
     raise NotFitted("a bit that isn't known")
 

@@ -4,6 +4,8 @@ from __future__ import annotations
 
 from typing import TYPE_CHECKING, Iterable, Iterator, Sequence
 
+from toolbox.lexer import Kind
+
 from .changes import Changes
 from .facts import ICMP_FIELDS, MARKS, TRANSPORTS, first_word
 from .grades import Grade
@@ -145,7 +147,7 @@ class Draft:
         """A statement that reads `tcp sport` also asks for TCP, where it is left out too."""
         for header in dict.fromkeys(first_word(it.name) for it in selectors_in(operands)):
             if header in TRANSPORTS and not all(self.asks_for(header, line) for line in self.lines):
-                self.put(f"meta l4proto {spell_value(Value('word', header), 'inet_proto')}")
+                self.put(f"meta l4proto {spell_value(Value(Kind.WORD, header), 'inet_proto')}")
         for words in dict.fromkeys(ICMP_FIELDS[it.name] for it in selectors_in(operands) if it.name in ICMP_FIELDS):
             text = f"icmp type {words[0]}" if len(words) == 1 else f"icmp type {{ {', '.join(words)} }}"
             if not all(self.has_one(line, [text, *(f"icmp type {it}" for it in words)]) for line in self.lines):

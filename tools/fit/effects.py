@@ -4,6 +4,8 @@ from __future__ import annotations
 from dataclasses import replace
 from typing import Sequence
 
+from toolbox.lexer import Kind
+
 from .draft import Draft
 from .dynamic import Dynamic
 from .facts import NEVER_IN_IPV4, first_word
@@ -118,7 +120,7 @@ class Effects:
         found = self.draft.table.objects.get(name)
         if found is None or found.what != "counter":
             raise Missing(f"there is no counter {name}")
-        numbers = [int(it.text) for it in found.body if it.kind == "number"]
+        numbers = [int(it.text) for it in found.body if it.kind is Kind.NUMBER]
         self.draft.table.objects[name] = replace(found, body=())
         return Counter(*numbers[:2]) if len(numbers) >= 2 else Counter(0, 0)
 

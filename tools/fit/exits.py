@@ -4,6 +4,8 @@ from __future__ import annotations
 
 from typing import Sequence
 
+from toolbox.lexer import Kind
+
 from .draft import Draft
 from .grades import Grade
 from .numbers import holds
@@ -59,7 +61,7 @@ def holds_without(operator: str, right: Expression) -> bool:
 
 
 def is_number(part: Part) -> bool:
-    return isinstance(part, Anything) or isinstance(part, One) and part.value.kind == "number"
+    return isinstance(part, Anything) or isinstance(part, One) and part.value.kind is Kind.NUMBER
 
 
 def is_nothing(part: Part) -> bool:

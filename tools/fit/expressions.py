@@ -3,7 +3,7 @@ from __future__ import annotations
 
 from typing import Sequence
 
-from toolbox.lexer import Token
+from toolbox.lexer import Kind, Token
 
 from .facts import FIELDS, META, TCP_FLAGS, VERDICTS
 from .scanner import END
@@ -41,7 +41,7 @@ CALCULATIONS = (
 COMPARISONS = {"eq": "==", "ne": "!=", "lt": "<", "gt": ">", "le": "<=", "ge": ">="}
 OPTION_FIELDS = set("kind length size count left right tsval tsecr ptr type value addr".split())
 LONGEST_NUMBER = 20  # of its digits, as many as 2^64 has
-VALUES = ("number", "address", "six", "mac", "time", "word", "string", "wild")
+VALUES = (Kind.NUMBER, Kind.ADDRESS, Kind.SIX, Kind.MAC, Kind.TIME, Kind.WORD, Kind.STRING, Kind.WILD)
 
 
 def as_number(text: str) -> int:
@@ -69,7 +69,7 @@ class ExpressionReader:
 
     def has(self, *texts: str, ahead: int = 0) -> bool:
         token = self.peek(ahead)
-        return token.kind in ("word", "mark") and token.text in texts
+        return token.kind in (Kind.WORD, Kind.MARK) and token.text in texts
 
     def skip(self, *texts: str) -> bool:
         if self.has(*texts):
@@ -77,35 +77,35 @@ class ExpressionReader:
             return True
         return False
 
-    def take(self, kind: str | None = None, *texts: str) -> Token:
+    def take(self, kind: Kind | None = None, *texts: str) -> Token:
         token = self.peek()
-        if token.kind == "end":
+        if token.kind is Kind.END:
             raise NotFitted("the rule ends too early")
-        if (kind and token.kind != kind) or (texts and token.text not in texts):
+        if (kind and token.kind is not kind) or (texts and token.text not in texts):
             raise NotFitted(f"`{token.text}` isn't understood here")
         self.at += 1
         return token
 
     def name(self) -> str:
         token = self.take()
-        if token.kind not in ("word", "string"):
+        if token.kind not in (Kind.WORD, Kind.STRING):
             raise NotFitted(f"`{token.text}` is no name")
         return token.text.strip('"')
 
     def newlines(self) -> None:
-        while self.peek().kind == "newline":
+        while self.peek().kind is Kind.NEWLINE:
             self.at += 1
 
     def number(self) -> int:
-        return as_number(self.take("number").text)
+        return as_number(self.take(Kind.NUMBER).text)
 
     # values
 
     def value(self) -> Value:
         if self.skip("["):
-            address = self.take("six")
-            self.take("mark", "]")
-            return Value("six", address.text)
+            address = self.take(Kind.SIX)
+            self.take(Kind.MARK, "]")
+            return Value(Kind.SIX, address.text)
         token = self.peek()
         if token.kind not in VALUES:
             raise NotFitted(f"`{token.text or 'the end'}` isn't a value")
@@ -119,14 +119,14 @@ class ExpressionReader:
         value = self.value()
         if self.skip("-"):
             return Range(value, self.value())
-        if self.has("/") and self.peek(1).kind == "number" and value.kind in ("address", "six", "number"):
+        if self.has("/") and self.peek(1).kind is Kind.NUMBER and value.kind in (Kind.ADDRESS, Kind.SIX, Kind.NUMBER):
             self.at += 1
             return Prefix(value, self.number())
         return One(value)
 
     def elements(self, is_map: bool = False) -> Elements:
         """`{ .. }`; lists within lists, which definitions make, are one list."""
-        self.take("mark", "{")
+        self.take(Kind.MARK, "{")
         found: list[Element] = []
         self.newlines()
         while not self.has("}"):
@@ -138,7 +138,7 @@ class ExpressionReader:
             if not self.skip(","):
                 break
             self.newlines()
-        self.take("mark", "}")
+        self.take(Kind.MARK, "}")
         return Elements(tuple(found))
 
     def element(self, is_map: bool) -> Element:
@@ -150,7 +150,7 @@ class ExpressionReader:
         data: Verdict | tuple[Part, ...] | None = None
         if is_map:
             self.newlines()
-            self.take("mark", ":")
+            self.take(Kind.MARK, ":")
             self.newlines()
             data = self.verdict() if self.has(*VERDICTS) else self.data()
             extras += self.extras()
@@ -170,7 +170,7 @@ class ExpressionReader:
         bits = flag_bits(part.value)
         while self.skip("|"):
             bits |= flag_bits(self.value())
-        return One(Value("number", hex(bits)))
+        return One(Value(Kind.NUMBER, hex(bits)))
 
     def extras(self) -> list[str]:
         """What an element has beside its key: the words and numbers of it, without comments."""
@@ -178,12 +178,12 @@ class ExpressionReader:
         while True:
             self.newlines()
             if self.skip("comment"):
-                self.take("string")
+                self.take(Kind.STRING)
             elif self.has("timeout", "expires"):
                 found += [self.take().text, self.take().text]
             elif self.has("counter", "limit", "quota", "ct", "last"):
                 found.append(self.take().text)
-                while self.peek().kind in ("number", "time", "word", "mark") and not self.has(
+                while self.peek().kind in (Kind.NUMBER, Kind.TIME, Kind.WORD, Kind.MARK) and not self.has(
                     ",", "}", ":", "timeout", "expires", "comment"
                 ):
                     found.append(self.take().text)
@@ -191,7 +191,7 @@ class ExpressionReader:
                 return found
 
     def verdict(self) -> Verdict:
-        word = self.take("word", *VERDICTS).text
+        word = self.take(Kind.WORD, *VERDICTS).text
         if word not in ("jump", "goto"):
             return Verdict(word, None)
         if self.has("{"):
@@ -200,13 +200,13 @@ class ExpressionReader:
 
     def anonymous_chain(self) -> tuple[tuple[Token, ...], ...]:
         """The rules of a chain without a name, each as its tokens."""
-        self.take("mark", "{")
+        self.take(Kind.MARK, "{")
         rules: list[tuple[Token, ...]] = []
         rule: list[Token] = []
         depth = 0
         while True:
             token = self.take()
-            if depth == 0 and (token.kind == "newline" or token.kind == "mark" and token.text in ";}"):
+            if depth == 0 and (token.kind is Kind.NEWLINE or token.kind is Kind.MARK and token.text in ";}"):
                 if rule:
                     rules.append(tuple(rule))
                 rule = []
@@ -222,9 +222,10 @@ class ExpressionReader:
         """A selector, or None where none begins here. What nft(8) hasn't is refused: nothing may be assumed of it."""
         token, after = self.peek(), self.peek(1)
         word = token.text
-        if token.kind == "mark" and word == "@" and after.text in ("nh", "th", "ll", "ih") and self.has(",", ahead=2):
+        is_payload = token.kind is Kind.MARK and word == "@" and after.text in ("nh", "th", "ll", "ih")
+        if is_payload and self.has(",", ahead=2):
             return Selector("payload " + "".join(self.take().text for _ in range(6)))
-        if token.kind != "word":
+        if token.kind is not Kind.WORD:
             return None
         if word in ("numgen", "jhash", "symhash"):
             return self.drawn()
@@ -233,7 +234,7 @@ class ExpressionReader:
         if word in META and not (word == "ipsec" and after.text in ("in", "out")):
             self.at += 1
             return Selector(f"meta {word}")
-        if word not in FIELDS or after.kind != "word":
+        if word not in FIELDS or after.kind is not Kind.WORD:
             return None
         if word in ("tcp", "ip", "sctp", "dccp") and after.text in ("option", "chunk"):
             return self.option()
@@ -251,15 +252,15 @@ class ExpressionReader:
         name = f"{word} {after.text}"
         if word == "ct" and after.text in ("original", "reply"):
             name += " " + self.take().text if self.has("ip", "ip6") else ""
-            name += " " + self.take("word").text
+            name += " " + self.take(Kind.WORD).text
         return Selector(name)
 
     def fib(self) -> Selector:
         self.take()
-        flags = [self.take("word", "saddr", "daddr", "mark", "iif", "oif").text]
+        flags = [self.take(Kind.WORD, "saddr", "daddr", "mark", "iif", "oif").text]
         while self.skip("."):
-            flags.append(self.take("word", "saddr", "daddr", "mark", "iif", "oif").text)
-        return Selector(f"fib {' . '.join(flags)} {self.take('word', 'oif', 'oifname', 'type').text}")
+            flags.append(self.take(Kind.WORD, "saddr", "daddr", "mark", "iif", "oif").text)
+        return Selector(f"fib {' . '.join(flags)} {self.take(Kind.WORD, 'oif', 'oifname', 'type').text}")
 
     def option(self) -> Selector:
         name = f"{self.take().text} {self.take().text} {self.take().text}"
@@ -269,14 +270,14 @@ class ExpressionReader:
 
     def lookup_selector(self) -> Selector:
         """`rt nexthop`, `socket cgroupv2 level 1`, `osf name`, `ipsec in reqid`."""
-        token, after = self.take(), self.take("word")
+        token, after = self.take(), self.take(Kind.WORD)
         if token.text == "rt" and after.text in ("type", "hdrlength", "nexthdr", "seg-left"):
             return Selector(f"rt0 {after.text}")  # the routing header of IPv6
         if token.text != "ipsec" and after.text not in FIELDS[token.text]:
             raise NotFitted(f"nft(8) has no `{token.text} {after.text}`")
         words = [token.text, after.text]
         more = set("nexthop saddr daddr reqid spi name version spnum level ip ip6 mtu".split())
-        while self.has(*more) or (self.peek().kind == "number" and words[-1] in ("spnum", "level")):
+        while self.has(*more) or (self.peek().kind is Kind.NUMBER and words[-1] in ("spnum", "level")):
             words.append(self.take().text)
         return Selector(" ".join(words))
 
@@ -284,10 +285,10 @@ class ExpressionReader:
         kind = self.take().text
         over = None
         if kind == "numgen":
-            self.take("word", "inc", "random")
+            self.take(Kind.WORD, "inc", "random")
         elif kind == "jhash":
             over = self.operand()
-        self.take("word", "mod")
+        self.take(Kind.WORD, "mod")
         modulus, offset = self.number(), 0
         while self.has("seed", "offset"):
             which = self.take().text
@@ -304,7 +305,7 @@ class ExpressionReader:
         if level == len(CALCULATIONS):
             return self.primary()
         left = self.operand(level + 1)
-        while self.peek().kind in ("mark", "word") and self.peek().text in CALCULATIONS[level]:
+        while self.peek().kind in (Kind.MARK, Kind.WORD) and self.peek().text in CALCULATIONS[level]:
             operator = CALCULATIONS[level][self.take().text]
             left = Calculation(operator, left, self.operand(level + 1))
         if level == 0 and self.has("."):
@@ -319,7 +320,7 @@ class ExpressionReader:
     def primary(self) -> Expression:
         if self.skip("("):
             inner = self.operand()
-            self.take("mark", ")")
+            self.take(Kind.MARK, ")")
             return inner
         return self.selector() or self.part()
 
@@ -331,7 +332,7 @@ class ExpressionReader:
     def compared(self, left: Expression) -> tuple[str, Expression]:
         """The operator and what a match compares with."""
         operator = ""
-        if self.peek().kind == "word" and self.peek().text in COMPARISONS:
+        if self.peek().kind is Kind.WORD and self.peek().text in COMPARISONS:
             operator = COMPARISONS[self.take().text]
         elif self.has("==", "!=", "<", ">", "<=", ">=", "!"):
             operator = self.take().text
@@ -340,7 +341,7 @@ class ExpressionReader:
         if self.has("@") and not self.has(",", ahead=2):
             self.take()
             return operator, Named(self.name())
-        if left == Selector("meta priority") and self.peek().kind == "number" and self.has(":", ahead=1):
+        if left == Selector("meta priority") and self.peek().kind is Kind.NUMBER and self.has(":", ahead=1):
             return operator, self.handle()
         right = self.listed()
         if self.skip("/"):
@@ -355,8 +356,8 @@ class ExpressionReader:
     def handle(self) -> One:
         """The number of a class of traffic control, `1:1`."""
         major = self.number()
-        self.take("mark", ":")
-        return One(Value("number", hex(major << 16 | self.number())))
+        self.take(Kind.MARK, ":")
+        return One(Value(Kind.NUMBER, hex(major << 16 | self.number())))
 
     def listed(self) -> Expression:
         items = [self.constant()]
@@ -372,17 +373,17 @@ class ExpressionReader:
             inner = self.constant()
             while self.skip(","):
                 inner = Calculation("|", inner, self.constant())
-            self.take("mark", ")")
+            self.take(Kind.MARK, ")")
             return inner
         left = self.constant(level + 1)
-        while self.peek().kind in ("mark", "word") and self.peek().text in CALCULATIONS[level]:
+        while self.peek().kind in (Kind.MARK, Kind.WORD) and self.peek().text in CALCULATIONS[level]:
             operator = CALCULATIONS[level][self.take().text]
             left = Calculation(operator, left, self.constant(level + 1))
         return left
 
 
 def flag_bits(value: Value) -> int:
-    if value.kind == "number":
+    if value.kind is Kind.NUMBER:
         return as_number(value.text)
     if value.text in TCP_FLAGS:
         return TCP_FLAGS[value.text]

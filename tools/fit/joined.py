@@ -3,6 +3,8 @@ from __future__ import annotations
 
 from typing import Callable, Iterable, List, Sequence, Tuple
 
+from toolbox.lexer import Kind
+
 from .assumptions import ASSUMPTIONS
 from .draft import Draft
 from .exits import EXITS, WITHOUT, keys_without
@@ -314,8 +316,8 @@ def numbers_of(part: Part, kind: str) -> list[One] | None:
     if found is None or found[1] - found[0] >= MOST_KEYS:
         return None
     if kind == "ipv4_addr":
-        return [One(Value("address", spell_number(it, kind))) for it in range(found[0], found[1] + 1)]
-    return [One(Value("number", str(it))) for it in range(found[0], found[1] + 1)]
+        return [One(Value(Kind.ADDRESS, spell_number(it, kind))) for it in range(found[0], found[1] + 1)]
+    return [One(Value(Kind.NUMBER, str(it))) for it in range(found[0], found[1] + 1)]
 
 
 def overlap(keys: Sequence[Key], kinds: Sequence[str]) -> bool:

@@ -4,6 +4,8 @@ from __future__ import annotations
 from ipaddress import IPv4Address
 from typing import Sequence
 
+from toolbox.lexer import Kind
+
 from .connections import IN_ANY_DIRECTION, Connections, are_known, bits_of
 from .draft import Draft
 from .dynamic import Dynamic
@@ -49,7 +51,7 @@ from .tree import (
 from .unread import Unread
 
 ORDERS = ("<", ">", "<=", ">=")
-YES_NO = (One(Value("word", "missing")), One(Value("word", "exists")))
+YES_NO = (One(Value(Kind.WORD, "missing")), One(Value(Kind.WORD, "exists")))
 
 
 class Matches:
@@ -120,7 +122,7 @@ class Matches:
     # routing
 
     def match_fib(self, name: str, operator: str, right: Expression) -> None:
-        if name.endswith(" oif") and right == One(Value("number", "0")):
+        if name.endswith(" oif") and right == One(Value(Kind.NUMBER, "0")):
             right = YES_NO[0]  # no interface: there is no such route
         keys, result = name[4:].rsplit(" ", 1)
         parts = keys.split(" . ")
@@ -558,7 +560,7 @@ def flag_words(it: Expression, between: str) -> str:
         return flag_words(it.left, between) + between + flag_words(it.right, between)
     if isinstance(it, Calculation):
         return hex(constant_number(it))
-    if isinstance(it, One) and (it.value.kind == "number" or it.value.text in TCP_FLAGS):
+    if isinstance(it, One) and (it.value.kind is Kind.NUMBER or it.value.text in TCP_FLAGS):
         return it.value.text
     raise NotFitted("flags that aren't known")
 

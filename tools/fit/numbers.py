@@ -5,6 +5,8 @@ import socket
 from ipaddress import IPv4Address
 from typing import Mapping, Sequence
 
+from toolbox.lexer import Kind
+
 from .expressions import as_number, as_part
 from .facts import MORE_PROTOCOLS, MORE_SERVICES, PROTOCOLS, SERVICES, TCP_FLAGS, WIDTHS, WORDS
 from .tree import (
@@ -33,13 +35,13 @@ def width_of(kind: str) -> int:
 
 def number_of(value: Value, kind: str, words: Mapping[str, int] | None = None) -> int | None:
     """The number of a value, or None where it has none that is known."""
-    if value.kind == "number":
+    if value.kind is Kind.NUMBER:
         return as_number(value.text)
-    if value.kind == "address":
+    if value.kind is Kind.ADDRESS:
         return int(address_of(value.text))
-    if value.kind == "string" and words is not None:  # `iifgroup "default"`
+    if value.kind is Kind.STRING and words is not None:  # `iifgroup "default"`
         return words.get(value.text.strip('"'))
-    if value.kind != "word":
+    if value.kind is not Kind.WORD:
         return None
     if words is not None or kind in WORDS and value.text in WORDS[kind]:
         return (WORDS[kind] if words is None else words).get(value.text)
@@ -99,20 +101,20 @@ def spell_number(number: int, kind: str) -> str:
 
 def spell_value(value: Value, kind: str) -> str:
     if kind in NAMED:
-        if value.kind == "number" and kind == "iface_index":
+        if value.kind is Kind.NUMBER and kind == "iface_index":
             return value.text
         return spell_name(value.text)
-    if value.kind == "number" and kind == "ipv4_addr":
+    if value.kind is Kind.NUMBER and kind == "ipv4_addr":
         return str(IPv4Address(as_number(fitting_number(value.text, kind))))
-    if value.kind == "number":
+    if value.kind is Kind.NUMBER:
         return spell_bits(value.text, kind) if kind in ("ct_state", "ct_status") else fitting_number(value.text, kind)
-    if value.kind == "address" and kind == "ipv4_addr":
+    if value.kind is Kind.ADDRESS and kind == "ipv4_addr":
         return str(address_of(value.text))
-    if value.kind == "word" and value.text in WORDS.get(kind, {}):
+    if value.kind is Kind.WORD and value.text in WORDS.get(kind, {}):
         return value.text
-    if value.kind == "word" and kind == "inet_service":
+    if value.kind is Kind.WORD and kind == "inet_service":
         return str(service(value.text))
-    if value.kind == "word" and kind == "inet_proto":
+    if value.kind is Kind.WORD and kind == "inet_proto":
         return "ipv6-icmp" if value.text == "icmpv6" else str(protocol(value.text))
     raise NotFitted(f"`{value.text}` isn't a value of {kind}")
 
@@ -151,7 +153,7 @@ def range_for(operator: str, right: Part, kind: str) -> Range:
     low, high = ends[operator]
     if not 0 <= low <= high <= top:
         raise NotFitted(f"no value of {kind} is `{operator} {number}`")
-    return Range(Value("number", str(low)), Value("number", str(high)))
+    return Range(Value(Kind.NUMBER, str(low)), Value(Kind.NUMBER, str(high)))
 
 
 def spell_range(part: Range, kind: str) -> str:
@@ -281,9 +283,9 @@ def constant(it: Expression, words: Mapping[str, int] = TCP_FLAGS) -> One:
         for item in it.items:
             bits |= constant_number(item, words)
         return number_part(bits)
-    if isinstance(it, One) and it.value.kind == "number":
+    if isinstance(it, One) and it.value.kind is Kind.NUMBER:
         return it
-    if isinstance(it, One) and it.value.kind == "word" and it.value.text in words:
+    if isinstance(it, One) and it.value.kind is Kind.WORD and it.value.text in words:
         return number_part(words[it.value.text])
     raise NotFitted("a constant that isn't known")
 
@@ -293,7 +295,7 @@ def constant_number(it: Expression, words: Mapping[str, int] = TCP_FLAGS) -> int
 
 
 def number_part(number: int) -> One:
-    return One(Value("number", hex(number)))
+    return One(Value(Kind.NUMBER, hex(number)))
 
 
 def bits_named(number: int, words: Mapping[str, int]) -> list[str]:

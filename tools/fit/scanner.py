@@ -5,10 +5,10 @@ import re
 from dataclasses import replace
 from typing import Sequence
 
-from toolbox.lexer import UNKNOWN, Source, Token, tokens_in
+from toolbox.lexer import Kind, Source, Token, tokens_in
 
 NOWHERE = Source("", "")
-END = Token("end", "", NOWHERE, 0, 0, 0)
+END = Token(Kind.END, "", NOWHERE, 0, 0, 0)
 COMMENT = re.compile(r"[ \t]*;?[ \t]*(#(?! handle [0-9]+\s*$)[^\n]*)", re.MULTILINE)
 
 
@@ -28,7 +28,7 @@ def scan(source: Source) -> list[Token]:
     """All tokens of a text but blanks; Refused where nft(8) knows none."""
     tokens = list(tokens_in(source))
     for token in tokens:
-        if token.kind == UNKNOWN:
+        if token.kind is Kind.UNKNOWN:
             shown_text = source.text[token.start : token.start + 20].split("\n")[0]
             raise Refused(f"{place(token)}: {shown_text!r} begins nothing that nft(8) knows")
     return tokens
@@ -38,7 +38,7 @@ def spelled(tokens: Sequence[Token]) -> str:
     """Tokens as text on one line, with blanks where they are usual."""
     text = ""
     for token in tokens:
-        if token.kind == "newline":
+        if token.kind is Kind.NEWLINE:
             continue
         tight = not text or token.text in (",", ";", "]", ")") or text[-1] in "@([" or is_tight(text, token.text)
         text += ("" if tight else " ") + token.text

@@ -4,6 +4,8 @@ from __future__ import annotations
 import re
 from typing import TYPE_CHECKING, Sequence
 
+from toolbox.lexer import Kind, Token
+
 from .expressions import ExpressionReader
 from .facts import LONGEST_KEY, TYPES, WIDTHS, WORDS
 from .grades import Grade
@@ -28,8 +30,6 @@ from .tree import (
 )
 
 if TYPE_CHECKING:
-    from toolbox.lexer import Token
-
     from .fitter import Fitter
 
 ENDING = {"timeout", "expires"}
@@ -264,10 +264,10 @@ def is_plain_value(value: object, kind: str) -> bool:
     if not isinstance(value, Value):
         return True
     is_name = kind in ("ifname", "iface_index")
-    if value.kind == "word":
+    if value.kind is Kind.WORD:
         return is_name or value.text in WORDS.get(kind, {})
-    if value.kind == "string":
+    if value.kind is Kind.STRING:
         return is_name and not value.text.endswith("*")
-    if value.kind == "address":
+    if value.kind is Kind.ADDRESS:
         return kind == "ipv4_addr"
-    return value.kind == "number" and kind not in ("ipv4_addr", "ifname", "ct_state", "ct_status")
+    return value.kind is Kind.NUMBER and kind not in ("ipv4_addr", "ifname", "ct_state", "ct_status")

@@ -4,6 +4,8 @@ from __future__ import annotations
 from dataclasses import replace
 from typing import Callable, NoReturn
 
+from toolbox.lexer import Kind
+
 from .expressions import ExpressionReader
 from .facts import VERDICTS
 from .grades import Grade
@@ -46,10 +48,10 @@ class RuleReader(ExpressionReader):
         """The statements and the comment of the rule."""
         statements: list[Statement] = []
         comment = None
-        while self.peek().kind != "end":
+        while self.peek().kind is not Kind.END:
             start = self.at
             if self.skip("comment"):
-                comment = self.take("string").text
+                comment = self.take(Kind.STRING).text
                 continue
             what = self.statement()
             statements.append(Statement(tuple(self.tokens[start : self.at]), what))
@@ -57,7 +59,7 @@ class RuleReader(ExpressionReader):
 
     def statement(self) -> What:
         token, after = self.peek(), self.peek(1)
-        word = token.text if token.kind == "word" else ""
+        word = token.text if token.kind is Kind.WORD else ""
         if word in VERDICTS:
             return self.verdict()
         if word in READERS:
@@ -97,7 +99,7 @@ class RuleReader(ExpressionReader):
     def read_counter(self) -> Counter | ObjectUse:
         if self.skip("packets"):
             packets = self.number()
-            self.take("word", "bytes")
+            self.take(Kind.WORD, "bytes")
             return Counter(packets, self.number())
         if self.skip("name"):
             return ObjectUse("counter", self.object())
@@ -105,7 +107,7 @@ class RuleReader(ExpressionReader):
 
     def object(self) -> str | Expression:
         """A named object, or a map that gives one: its name or the map."""
-        if self.peek().kind == "string" or (self.peek().kind == "word" and not self.has("map", ahead=2)):
+        if self.peek().kind is Kind.STRING or (self.peek().kind is Kind.WORD and not self.has("map", ahead=2)):
             return self.name()
         return self.operand()
 
@@ -138,19 +140,19 @@ class RuleReader(ExpressionReader):
     def read_limit(self) -> Bound | ObjectUse:
         if self.skip("name"):
             return self.named_bound("limit")
-        self.take("word", "rate")
+        self.take(Kind.WORD, "rate")
         over = self.over()
         self.number()
-        if self.peek().kind == "word":  # mbytes/second is one word
+        if self.peek().kind is Kind.WORD:  # mbytes/second is one word
             if "/" not in self.take().text:
-                self.take("mark", "/")
-                self.take("word")
+                self.take(Kind.MARK, "/")
+                self.take(Kind.WORD)
         else:
-            self.take("mark", "/")
-            self.take("word")
+            self.take(Kind.MARK, "/")
+            self.take(Kind.WORD)
         if self.skip("burst"):
             self.number()
-            self.take("word", *UNITS)
+            self.take(Kind.WORD, *UNITS)
         return Bound("limit", over, None)
 
     def read_quota(self) -> Bound | ObjectUse:
@@ -158,10 +160,10 @@ class RuleReader(ExpressionReader):
             return self.named_bound("quota")
         over = self.over()
         self.number()
-        self.take("word", *UNITS)
+        self.take(Kind.WORD, *UNITS)
         if self.skip("used"):
             self.number()
-            self.take("word", *UNITS)
+            self.take(Kind.WORD, *UNITS)
         return Bound("quota", over, None)
 
     def named_bound(self, kind: str) -> Bound | ObjectUse:
@@ -169,7 +171,7 @@ class RuleReader(ExpressionReader):
         return Bound(kind, None, named) if isinstance(named, str) else ObjectUse(kind, named)
 
     def read_last(self) -> LeftOut:
-        while self.has("used", "never") or self.peek().kind == "time":
+        while self.has("used", "never") or self.peek().kind is Kind.TIME:
             self.take()
         return LeftOut(Grade.OUTCOME, "when the last packet came isn't shown")
 
@@ -178,16 +180,16 @@ class RuleReader(ExpressionReader):
     def read_reject(self) -> Reject:
         if not self.skip("with"):
             return Reject(())
-        words = [self.take("word", "tcp", "icmp", "icmpv6", "icmpx").text]
+        words = [self.take(Kind.WORD, "tcp", "icmp", "icmpv6", "icmpx").text]
         if words[0] == "tcp":
-            words.append(self.take("word", "reset").text)
+            words.append(self.take(Kind.WORD, "reset").text)
         else:
             self.skip("type")
             words.append(self.take().text)
         return Reject(tuple(words))
 
     def read_queue(self) -> Queue:
-        while self.peek().kind != "end" and not self.has("comment"):
+        while self.peek().kind is not Kind.END and not self.has("comment"):
             self.take()
         return Queue()
 
@@ -202,8 +204,8 @@ class RuleReader(ExpressionReader):
         return LeftOut(Grade.OUTCOME, "the copy isn't shown, nor what it counts in postrouting", tuple(operands))
 
     def read_flow(self) -> Offload:
-        self.take("word", "add", "offload")
-        self.take("mark", "@")
+        self.take(Kind.WORD, "add", "offload")
+        self.take(Kind.MARK, "@")
         self.name()
         return Offload()
 
@@ -219,7 +221,7 @@ class RuleReader(ExpressionReader):
         address = ports = None
         if self.skip(":"):
             ports = self.operand()
-        elif has_to or (kind in ("snat", "dnat") and self.peek().kind != "end"):
+        elif has_to or (kind in ("snat", "dnat") and self.peek().kind is not Kind.END):
             address = self.operand()
             if kind in ("masquerade", "redirect"):  # `redirect to tcp dport map { .. }`
                 address, ports = None, address
@@ -235,7 +237,7 @@ class RuleReader(ExpressionReader):
         """`ip` or `ip6` before `to`; `ip` also begins a selector, as in `snat ip saddr map ..`."""
         after = self.peek(1)
         if self.has("ip", "ip6") and (
-            after.text in ("to", "prefix", "interval", ":", "addr") or after.kind in ("address", "six")
+            after.text in ("to", "prefix", "interval", ":", "addr") or after.kind in (Kind.ADDRESS, Kind.SIX)
         ):
             return self.take().text
         return ""
@@ -244,18 +246,18 @@ class RuleReader(ExpressionReader):
 
     def change_of_set(self, word: str) -> ChangeOfSet:
         name = self.name()
-        self.take("mark", "{")
+        self.take(Kind.MARK, "{")
         key = self.operand()
         bounds: list[Bound | None] = []
         while not self.has("}", ":"):
             if self.has("timeout", "expires"):
                 self.at += 2
             elif self.skip("comment"):
-                self.take("string")
+                self.take(Kind.STRING)
             else:
                 bounds.append(self.bound_of_element())
         data = self.operand() if self.skip(":") else None
-        self.take("mark", "}")
+        self.take(Kind.MARK, "}")
         return ChangeOfSet(word, name, key, data, tuple(it for it in bounds if it))
 
     def bound_of_element(self) -> Bound | None:
@@ -277,7 +279,7 @@ class RuleReader(ExpressionReader):
         key = self.operand()
         if self.has("timeout"):
             self.at += 2
-        self.take("mark", "@")
+        self.take(Kind.MARK, "@")
         return ChangeOfSet(word, self.name(), key, None, ())
 
     def read_meter(self) -> ChangeOfSet:
@@ -285,7 +287,7 @@ class RuleReader(ExpressionReader):
         name = self.peek()
         self.name()
         size = self.number() if self.skip("size") else None
-        self.tokens = [*self.tokens[: self.at], replace(name, kind="word"), *self.tokens[self.at :]]
+        self.tokens = [*self.tokens[: self.at], replace(name, kind=Kind.WORD), *self.tokens[self.at :]]
         return replace(self.change_of_set("add"), size=size)
 
 

@@ -4,6 +4,8 @@ from __future__ import annotations
 from dataclasses import replace
 from typing import Sequence
 
+from toolbox.lexer import Kind
+
 from .draft import Draft
 from .facts import TYPES
 from .grades import Grade
@@ -43,7 +45,7 @@ class Translations:
         self.draft, self.matches, self.joined, self.maps, self.writes = draft, matches, joined, maps, writes
 
     def fit_nat(self, it: Translation) -> None:
-        if it.family == "ip6" or isinstance(it.address, One) and it.address.value.kind == "six":
+        if it.family == "ip6" or isinstance(it.address, One) and it.address.value.kind is Kind.SIX:
             self.draft.tell(Grade.SAME, self.draft.never(), "it translates IPv6 packets")
             self.draft.die()
             return
@@ -101,7 +103,7 @@ class Translations:
             what = it.what
             if not isinstance(what, Match) or what.left != Selector(name) or what.operator not in ("", "=="):
                 continue
-            if isinstance(what.right, One) and what.right.value.kind == "address":
+            if isinstance(what.right, One) and what.right.value.kind is Kind.ADDRESS:
                 self.draft.tell(Grade.SAME, f"to {what.right.value.text}", f"the rule asks for this {name}")
                 return what.right
         raise NotFitted("translation of the port alone, where the rule doesn't ask for one address")
@@ -129,7 +131,7 @@ class Translations:
             one = One(part.low if way == "first" else part.high)
         else:
             low, high = addresses_of(part)
-            one = One(Value("address", spell_number(low if way == "first" else high, "ipv4_addr")))
+            one = One(Value(Kind.ADDRESS, spell_number(low if way == "first" else high, "ipv4_addr")))
         self.draft.guess("nat", way, spell_part(one, kind))
         return one
 

@@ -4,9 +4,9 @@ from __future__ import annotations
 from dataclasses import dataclass, fields, is_dataclass
 from typing import TYPE_CHECKING, Iterator, Sequence, Union
 
-if TYPE_CHECKING:
-    from toolbox.lexer import Token
+from toolbox.lexer import Kind, Token
 
+if TYPE_CHECKING:
     from .grades import Grade
 
 # Values
@@ -16,7 +16,7 @@ if TYPE_CHECKING:
 class Value:
     """A value as it is spelled; `kind` is that of its token."""
 
-    kind: str
+    kind: Kind
     text: str
 
 
@@ -417,4 +417,4 @@ def names_in(it: object) -> Iterator[str]:
 
 def counters_in(tokens: Sequence[Token]) -> int:
     """How many counters a rule has, by its tokens."""
-    return sum(it.kind == "word" and it.text == "counter" for it in tokens)
+    return sum(it.kind is Kind.WORD and it.text == "counter" for it in tokens)

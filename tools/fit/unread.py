@@ -3,6 +3,8 @@ from __future__ import annotations
 
 from typing import Callable
 
+from toolbox.lexer import Kind
+
 from .assumptions import ASSUMPTIONS
 from .connections import IN_ANY_DIRECTION
 from .draft import Draft
@@ -13,7 +15,7 @@ from .numbers import holds, share
 from .tree import Elements, Expression, Mapping, Missing, Named, NotFitted, One, Selector, Value, selectors_in
 
 WITHOUT_OWNER = {"prerouting", "forward", "postrouting", "output"}
-MISSING, EXISTS = One(Value("word", "missing")), One(Value("word", "exists"))
+MISSING, EXISTS = One(Value(Kind.WORD, "missing")), One(Value(Kind.WORD, "exists"))
 YES_NO = (MISSING, EXISTS)
 
 

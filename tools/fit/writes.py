@@ -4,6 +4,8 @@ from __future__ import annotations
 from dataclasses import replace
 from typing import Sequence
 
+from toolbox.lexer import Kind
+
 from .assumptions import ASSUMPTIONS
 from .draft import Draft
 from .facts import KNOWN, LEFT_OUT, MARKS, NEVER_IN_IPV4, TYPES, assumption_of, first_word
@@ -109,7 +111,7 @@ class Writes:
     def set_mark(self, name: str, operand: Expression) -> None:
         if isinstance(operand, Lookup):
             self.set_by_map(name, operand)
-        elif isinstance(operand, One) and operand.value.kind == "number":
+        elif isinstance(operand, One) and operand.value.kind is Kind.NUMBER:
             self.draft.put_spelled(f"{name} set {spell_part(operand, 'mark')}", kind="mark")
         elif isinstance(operand, Selector) and operand.name in MARKS:
             self.draft.put_spelled(f"{name} set {operand.name}", [operand.name], "mark")
@@ -201,7 +203,7 @@ def with_rest(elements: Sequence[Element], kind: str) -> list[Element]:
     out, at = named, 0
     for low, high in [*spans, (1 << width_of(kind), 0)]:
         if at < low:
-            ends = [Value("number", str(it)) for it in (at, low - 1)]
+            ends = [Value(Kind.NUMBER, str(it)) for it in (at, low - 1)]
             out.append(replace(rest[0], key=(One(ends[0]) if at == low - 1 else Range(*ends),)))
         at = max(at, high + 1)
     return out

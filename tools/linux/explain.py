@@ -12,8 +12,8 @@ from linux.history import History, Inside, Passage, is_lone_syn
 from linux.seen import Fate
 from toolbox.crafted import pseudo_header
 from toolbox.packets import (
-    ACK, ANSWER, ASK, FIN, ICMP, ICMP_ERRORS, NO_PORT, RST, SYN, TCP, UDP, checksum, destination_end, source_end,
-    tuple_at)
+    ACK, ANSWER, ASK, FIN, ICMP, ICMP_ERRORS, NO_PORT, RST, SYN, TCP, UDP, checksum, destination_end, kind_of,
+    source_end, source_of, source_port, tuple_at)
 from toolbox.rulesets import Chain, Rule, Ruleset
 
 SCTP, GRE, REDIRECT = 132, 47, 5
@@ -196,23 +196,23 @@ def by_source(case: Case, key: bytes, mine: bytes, other: bytes) -> str | None:
         return None
     if case.theirs == "invalid" and source_end(other) == source_end(key):
         return "invalid-untranslated"
-    if mine[:4] != other[:4]:
-        own = case.box.addresses.get(mine[:4])
-        return "masquerade-address" if own is not None and own == case.box.addresses.get(other[:4]) else None
-    if key[12:] == ASK or key[8:10] == NO_PORT:
+    if source_of(mine) != source_of(other):
+        own = case.box.addresses.get(source_of(mine))
+        return "masquerade-address" if own is not None and own == case.box.addresses.get(source_of(other)) else None
+    if kind_of(key) == ASK or not source_port(key):
         return "port-zero"
     return by_port(case, key, mine, other)
 
 
 def by_port(case: Case, key: bytes, mine: bytes, other: bytes) -> str | None:
-    kept_by_linux, kept_by_us = (one[8:10] == key[8:10] for one in (other, mine))
+    kept_by_linux, kept_by_us = (source_port(one) == source_port(key) for one in (other, mine))
     if case.conversation and case.earlier() and case.conversation.sections:
         return None  # the connection's first packet tells
     if kept_by_linux:
         return "port-for-two"
     # nftrun keeps to the end that a host has already
     host = source_end(key)
-    ends = case.history.ends.get(Inside(key[12], host), ())
+    ends = case.history.ends.get(Inside(kind_of(key), host), ())
     if source_end(mine) in ends and case.history.was_used(case.number, host):
         return "several-ports"
     return None if kept_by_us else "port-taken"
@@ -250,7 +250,7 @@ def why_invalid(case: Case) -> str | None:
         return "icmp-errors" if wrong else None
     if wrong:
         return "sequence-checksum"
-    if case.key and case.key[12:] == ANSWER:
+    if case.key and kind_of(case.key) == ANSWER:
         return "idle-limits" if case.earlier() and is_idle(case) else None
     if case.protocol != TCP:
         return None

@@ -5,7 +5,7 @@ from __future__ import annotations
 from dataclasses import dataclass
 
 from linux.seen import Fate, Said, Told
-from toolbox.packets import ACK, FIN, RST, SYN, TCP, error_tuple_at, inverse, source_end, tuple_at
+from toolbox.packets import ACK, FIN, RST, SYN, TCP, error_tuple_at, inverse, kind_of, source_end, tuple_at
 from toolbox.reports import THROUGH
 
 
@@ -69,7 +69,7 @@ class History:
         conversation = self.known[number] = self.conversation(key)
         if not found:
             return
-        flags = packet[4 * (packet[0] & 15) + 13] if key[12] == TCP else 0
+        flags = packet[4 * (packet[0] & 15) + 13] if kind_of(key) == TCP else 0
         conversation.packets.append(
             Passage(number, moment, key, flags, said.outcome in THROUGH, told.fate in (Fate.PASSED, Fate.LOCAL)))
         for left in ([said.leaves] if said.leaves else []) + list(told.leaves):
@@ -85,7 +85,7 @@ class History:
 
     def take_mapping(self, key: bytes, left: bytes | None) -> None:
         if left and source_end(left) != source_end(key):
-            self.ends.setdefault(Inside(key[12], source_end(key)), set()).add(source_end(left))
+            self.ends.setdefault(Inside(kind_of(key), source_end(key)), set()).add(source_end(left))
 
     def was_used(self, number: int, end: bytes) -> bool:
         """Whether a packet before a record came from an end."""

@@ -8,7 +8,7 @@ from __future__ import annotations
 from dataclasses import dataclass
 from typing import Iterable, Iterator, Union
 
-from toolbox.lexer import Token, tokens_of
+from toolbox.lexer import Kind, Token, tokens_of
 from toolbox.reports import Decision, Log, event_of, records_of
 from toolbox.rulesets import TRANSLATIONS, VERDICTS, statement_words
 
@@ -46,7 +46,7 @@ class RuleEnds:
 
     def take(self, token: Token) -> int | None:
         word, place = token.text, None
-        is_newline = token.kind == "newline"
+        is_newline = token.kind is Kind.NEWLINE
         if self.in_chain and self.depth == 2 and (is_newline or word in (";", "}")):
             place, self.piece = end_of_rule(self.piece), []
         elif self.in_chain and self.depth >= 2 and not is_newline:
@@ -81,7 +81,7 @@ def end_of_rule(tokens: list[Token]) -> int | None:
         return None
     if any(word in VERDICTS + TRANSLATIONS for word in statement_words(tokens)):
         return None
-    if len(tokens) > 2 and tokens[-2].text == "comment" and tokens[-1].kind == "string":
+    if len(tokens) > 2 and tokens[-2].text == "comment" and tokens[-1].kind is Kind.STRING:
         tokens = tokens[:-2]
     return tokens[-1].end
 

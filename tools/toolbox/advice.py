@@ -8,7 +8,9 @@ from typing import TYPE_CHECKING
 
 from toolbox.captures import BROADCAST, LINUX_SLL2, MULTICAST, OTHER_STATION, SENT_BY_US, interface_of
 from toolbox.commands import plural
-from toolbox.packets import TCP, UDP, address_text, destination_end
+from toolbox.packets import (
+    PORTED, PROTOCOL_NAMES, TCP, address_of, address_text, destination_end, destination_of, destination_port, kind_of,
+    port_of, source_of)
 
 if TYPE_CHECKING:
     from toolbox.rulesets import Chain
@@ -44,7 +46,7 @@ def advice(why: Why) -> list[str]:
     if outcome == "rule":
         return about_rule(why)
     if outcome == "route":
-        target = address_text(why.key[4:8]) if why.key else "its destination"
+        target = address_text(destination_of(why.key)) if why.key else "its destination"
         return [f"the box file has no route to {target}: add `route PREFIX NAME` if the box has one (ip -4 route)"]
     if outcome == "interface":
         index = interface_of(why.data, why.link_type)
@@ -107,9 +109,10 @@ def rule_for(why: Why, key: bytes, chain: Chain) -> str:
     if chain.hook in ("forward", "postrouting"):
         # behind the destination's step rules read the inner end
         target = why.behind_mapping() or translated_target(why, key) or target
-    parts = [f'iifname "{why.came_by}"', f"ip saddr {address_text(key[:4])}", f"ip daddr {address_text(target[:4])}"]
-    if key[12] in (TCP, UDP):
-        parts.append(f"{'tcp' if key[12] == TCP else 'udp'} dport {int.from_bytes(target[4:], 'big')}")
+    parts = [f'iifname "{why.came_by}"', f"ip saddr {address_text(source_of(key))}",
+             f"ip daddr {address_text(address_of(target))}"]
+    if kind_of(key) in PORTED:
+        parts.append(f"{PROTOCOL_NAMES[kind_of(key)]} dport {port_of(target)}")
     return " ".join(parts) + f" accept, in {chain.name}"
 
 
@@ -120,7 +123,7 @@ def translated_target(why: Why, key: bytes) -> bytes | None:
         if decision.verdict == "dnat" and rule:
             named = re.search(r"\bto ([0-9.]+)(?: ?: ?([0-9]+))?$", rule.text.partition(" comment ")[0])
             if named and len(named[2] or "") <= 5:
-                port = int.from_bytes(key[10:12], "big") if named[2] is None else int(named[2])
+                port = destination_port(key) if named[2] is None else int(named[2])
                 with contextlib.suppress(ValueError, OverflowError):
                     return IPv4Address(named[1]).packed + port.to_bytes(2, "big")
     return None

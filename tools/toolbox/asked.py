@@ -9,7 +9,7 @@ from typing import TYPE_CHECKING, Iterator
 
 from toolbox.captures import LINUX_SLL2, SENT_BY_US, packet_at, records
 from toolbox.commands import Refused
-from toolbox.packets import PORTED, PROTOCOL_NAMES, tuple_at
+from toolbox.packets import PORTED, PROTOCOL_NAMES, destination_port, kind_of, source_port, tuple_at
 
 if TYPE_CHECKING:
     from toolbox.captures import Header
@@ -78,8 +78,8 @@ class Asked:
             return False
         key = tuple_at(data, at)
         ports: tuple[int | None, int | None] = (None, None)
-        if key is not None and key[12] in PORTED:
-            ports = int.from_bytes(key[8:10], "big"), int.from_bytes(key[10:12], "big")
+        if key is not None and kind_of(key) in PORTED:
+            ports = source_port(key), destination_port(key)
         here, there = (data[at + 12:at + 16], ports[0]), (data[at + 16:at + 20], ports[1])
         if self.target is None:
             return self.source.is_of(*here) or self.source.is_of(*there)

@@ -79,5 +79,5 @@ class Box:
         """The idle limit in seconds by a tuple's kind; of TCP the longer one."""
         limits = [self.idle["other"]] * 256
         limits[TCP], limits[UDP] = self.idle["established"], self.idle["udp"]
-        limits[ASK[0]] = limits[ANSWER[0]] = self.idle["ask"]
+        limits[ASK] = limits[ANSWER] = self.idle["ask"]
         return limits

@@ -5,11 +5,14 @@ import filecmp
 from array import array
 from collections import Counter
 from dataclasses import dataclass, replace
+from enum import IntEnum
 from typing import TYPE_CHECKING, Iterator, Sequence, Tuple
 
 from toolbox.captures import LINK_LENGTHS, LINUX_SLL2, records
-from toolbox.packets import ANSWER, ASK, TCP, UDP, address_text, describe, inverse, without_ports
-from toolbox.replay import ELSEWHERE, LOCAL, NOT_SENT, PASSED
+from toolbox.packets import (
+    ECHOES, PORTED, PROTOCOL_NAMES, TCP, UDP, address_text, describe, inverse, service_kind, service_of, service_port,
+    source_of, without_ports)
+from toolbox.replay import LOCAL, NOT_SENT, PASSED, Cut
 from toolbox.reports import Decision, event_of, events_of_some
 from toolbox.rulesets import TRANSLATIONS, read_ruleset
 
@@ -19,9 +22,23 @@ if TYPE_CHECKING:
     from toolbox.rulemap import RuleMap
 
 OPENED, BLOCKED, REWRITTEN, OTHERWISE = "opened", "blocked", "rewritten only", "dropped otherwise"
-# The last: what leaves differs in ports alone, as a tracker chooses them
-KINDS = ("", OPENED, BLOCKED, REWRITTEN, OTHERWISE, REWRITTEN)
-OTHER_PORTS = 5
+
+
+class Differs(IntEnum):
+    """How a record differs, as a column has it. Of other ports what leaves differs in ports alone, as a tracker chooses
+    them."""
+
+    NOT = 0
+    OPENED = 1
+    BLOCKED = 2
+    REWRITTEN = 3
+    OTHERWISE = 4
+    OTHER_PORTS = 5
+
+
+KINDS: dict[int, str] = {
+    Differs.OPENED: OPENED, Differs.BLOCKED: BLOCKED, Differs.REWRITTEN: REWRITTEN, Differs.OTHERWISE: OTHERWISE,
+    Differs.OTHER_PORTS: REWRITTEN}
 SAME_RULES = "translated by the same rules, to other ports, since other flows have them or leave them"
 SAME_RULES_OTHER_MAPS = "the same rules, to another address or interface, as their maps or an earlier mapping have it"
 OUT_LINK = LINK_LENGTHS[LINUX_SLL2]
@@ -81,7 +98,7 @@ class Sight:
 
 
 def differing(old: Replay, new: Replay) -> bytearray:
-    """Of each record how the replays differ, as the place in KINDS; 0: not at all."""
+    """Of each record how the replays differ, one of Differs."""
     count = len(old.to) - 1
     what = bytearray(count + 1)
     if (old.outcomes == new.outcomes and old.to == new.to and old.names == new.names
@@ -94,15 +111,16 @@ def differing(old: Replay, new: Replay) -> bytearray:
         after = is_sent_now and new_places[new.outcomes[record]]
         if before and after:
             if left != leaves or before != after:
-                what[record] = OTHER_PORTS if before == after and are_alike_but_ports(left, leaves) else 3
+                has_other_ports = before == after and are_alike_but_ports(left, leaves)
+                what[record] = Differs.OTHER_PORTS if has_other_ports else Differs.REWRITTEN
         elif after:
-            what[record] = 1
+            what[record] = Differs.OPENED
         elif before:
-            what[record] = 2
+            what[record] = Differs.BLOCKED
         elif is_sent != is_sent_now:
-            what[record] = 4
+            what[record] = Differs.OTHERWISE
         elif is_sent and old.numbers[old.outcomes[record]] != new.numbers[new.outcomes[record]]:
-            what[record] = 4
+            what[record] = Differs.OTHERWISE
     return what
 
 
@@ -182,7 +200,7 @@ class Group:
         self.hosts: set[bytes] = set()
         self.ports: Counter[bytes] = Counter()
         self.ranges: list[list[int]] = []
-        self.filtered: set[bytes] = set()  # destination ports and kinds, on both sides of a translation
+        self.filtered: set[bytes] = set()  # services, on both sides of a translation
 
     def take(self, record: int, begins: bool, key: bytes | None) -> None:
         """Takes a record whose flow has the tuple `key`, as its first packet, or none."""
@@ -190,11 +208,11 @@ class Group:
         self.flows += begins
         if key is not None:
             if begins and len(self.hosts) < MOST_TOLD_APART:
-                self.hosts.add(key[:4])
+                self.hosts.add(source_of(key))
             if begins and len(self.ports) < MOST_TOLD_APART:
-                self.ports[key[10:]] += 1
+                self.ports[service_of(key)] += 1
             if len(self.filtered) < MOST_TOLD_APART:
-                self.filtered.add(key[10:])
+                self.filtered.add(service_of(key))
         if self.ranges and self.ranges[-1][1] == record - 1:
             self.ranges[-1][1] = record
         elif len(self.ranges) <= MOST_RANGES:
@@ -208,7 +226,7 @@ class Group:
     def ports_text(self) -> list[tuple[str, int]]:
         """[("tcp 443", 12), ..], the most frequent first"""
         by_number = sorted(self.ports.items(), key=lambda one: (-one[1], one[0]))
-        ports = ((port_text(end), number) for end, number in by_number)
+        ports = ((port_text(service), number) for service, number in by_number)
         return [one for one in ports if one[0]]
 
     def display_filter(self) -> str:
@@ -218,7 +236,7 @@ class Group:
             return "frame.number in {" + ", ".join(numbers) + "}"
         pieces: list[str] = []
         for name, kind in (("tcp", TCP), ("udp", UDP)):
-            ports = [str(int.from_bytes(end[:2], "big")) for end in sorted(self.filtered) if end[2] == kind]
+            ports = [str(service_port(one)) for one in sorted(self.filtered) if service_kind(one) == kind]
             if 0 < len(ports) <= MOST_IN_FILTER:
                 pieces.append(f"{name}.port in {{{', '.join(ports)}}}")
         hosts = ", ".join(map(address_text, sorted(self.hosts)))
@@ -226,12 +244,12 @@ class Group:
         return " && ".join(whose + ([f"({' || '.join(pieces)})"] if pieces else [])) or "ip"
 
 
-def port_text(end: bytes) -> str:
-    """tcp 443, of 3 bytes: port and kind"""
-    kind = end[2]
-    if kind in (TCP, UDP):
-        return f"{'tcp' if kind == TCP else 'udp'} {int.from_bytes(end[:2], 'big')}"
-    return "ping" if kind in (ASK[0], ANSWER[0]) else f"protocol {kind}"
+def port_text(service: bytes) -> str:
+    """tcp 443"""
+    kind = service_kind(service)
+    if kind in PORTED:
+        return f"{PROTOCOL_NAMES[kind]} {service_port(service)}"
+    return "ping" if kind in ECHOES else f"protocol {kind}"
 
 
 class Groups:
@@ -243,8 +261,9 @@ class Groups:
         self.by_key: dict[tuple[str, Told, Told], Group] = {}
         self.causes: dict[tuple[int, Made], tuple[Told, Told]] = {}
         self.flow_counts: Counter[str] = Counter()
-        # of each flow its last group (from 1) and the kinds it is in; and what is in several groups
-        self.last, self.kinds = array("I", bytes(4 * len(flows.all))), bytearray(len(flows.all))
+        # of each flow its last group (from 1); by kind the flows that are in a group of it; what is in several groups
+        self.last = array("I", bytes(4 * len(flows.all)))
+        self.having: dict[str, set[int]] = {kind: set() for kind in KINDS.values()}
         self.several: set[tuple[int, int]] = set()
 
     def each(self) -> Iterator[tuple[int, bytes, Group]]:
@@ -274,7 +293,7 @@ class Groups:
         if not flow and len(data) >= self.flows_of.at + 20 and len(group.hosts) < MOST_TOLD_APART:
             group.hosts.add(data[self.flows_of.at + 12:self.flows_of.at + 16])
         group.not_sent += bool(unsent)
-        group.elsewhere += any(one.cut[flow] == ELSEWHERE for one in unsent)
+        group.elsewhere += any(one.cut[flow] == Cut.ELSEWHERE for one in unsent)
         return group
 
     def cause_of(self, what: int, made: Made) -> tuple[Told, Told]:
@@ -283,7 +302,7 @@ class Groups:
             before, after = (
                 [told for told in map(sight.told, events) if told] for sight, events in zip(self.sights, made[:2]))
             found = cause(KINDS[what], before, after, *made[2:])
-            if what == OTHER_PORTS and translations(before) == translations(after):
+            if what == Differs.OTHER_PORTS and translations(before) == translations(after):
                 found = (Told(None, None, made[3], SAME_RULES),) * 2
             elif found[0].text == SAME_RULES:
                 found = (replace(found[0], text=SAME_RULES_OTHER_MAPS),) * 2
@@ -292,11 +311,11 @@ class Groups:
 
     def begins(self, flow: int, group: Group) -> bool:
         """Whether the group hasn't had this flow; a record of none is a flow of its own."""
-        bit = 1 << KINDS.index(group.kind)
-        self.flow_counts[group.kind] += not (flow and self.kinds[flow] & bit)
+        having = self.having[group.kind]
+        self.flow_counts[group.kind] += flow not in having
         if not flow:
             return True
-        self.kinds[flow] |= bit
+        having.add(flow)
         before, self.last[flow] = self.last[flow], group.number
         if before in (0, group.number):
             return before == 0

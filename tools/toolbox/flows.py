@@ -14,7 +14,8 @@ from toolbox.captures import (
     ETHERNET, FILE_HEADER, IPV4, LINK_LENGTHS, LINUX_SLL2, PROTOCOL_AT, RECORD_HEADER, SENT_BY_US, TO_US, header_of,
     is_torn, pieces)
 from toolbox.packets import (
-    ACK, FIN, RST, SYN, TCP, destination_end, error_tuple_at, identity, inverse, source_end, tuple_at)
+    ACK, FIN, KIND, NO_TUPLE, RST, SYN, TCP, destination_end, error_tuple_at, identity, inverse, kind_of, source_end,
+    source_of, source_port, tuple_at)
 
 if TYPE_CHECKING:
     from toolbox.boxes import Box
@@ -114,7 +115,7 @@ class Flows:
         self.at = LINK_LENGTHS[header.link_type]
         self.of, self.seen, self.offset = array("I", [0]), array("I", [0]), array("Q", [0])
         self.is_reply, self.part = bytearray(1), bytearray(1)
-        self.tuples = [bytes(13)]
+        self.tuples = [NO_TUPLE]
         self.all = [Flow(0, 0, 0, 0)]
         self.copies = self.own = 0
         self.end = FILE_HEADER  # of the last whole record, in the file
@@ -258,12 +259,13 @@ class Reader:
         key = tuple_at(data, self.at)
         if key is None:
             return self.enter_error(number, data)
-        is_tcp, flags = key[12] == TCP, 0
+        kind = key[KIND]  # not by a call: it is asked of each packet
+        is_tcp, flags = kind == TCP, 0
         if is_tcp:
             flags = data[self.at + 4 * (data[self.at] & 15) + 13] & (FIN | SYN | RST | ACK)
         place = self.find.get(key)
         came = (self.owner[place] if place else None) or self.by_inverse(key)
-        if came and (flags == SYN or seconds - came.flow.last >= self.limits[key[12]]):
+        if came and (flags == SYN or seconds - came.flow.last >= self.limits[kind]):
             came = self.still(came, seconds, key, flags, data)
         if flags & (SYN | ACK) == SYN | ACK:
             came = self.by_handshake(came, key, data)
@@ -289,7 +291,7 @@ class Reader:
     def still(self, came: Direction, seconds: int, key: bytes, flags: int, data: bytes) -> Direction | None:
         """The side of a packet of a known tuple, or None if it is the first of another flow: a lone SYN of another
         number, or one that comes when the flow has expired."""
-        if seconds - came.flow.last >= self.limits[key[12]]:
+        if seconds - came.flow.last >= self.limits[kind_of(key)]:
             return None
         if flags == SYN and came.flow.begun_with != sequence_of(data, self.at):
             return None
@@ -357,8 +359,9 @@ class Reader:
 
     def begin(self, number: int, seconds: int, key: bytes, flags: int, data: bytes) -> Direction:
         """Begins a flow; whatever had its tuple, or the inverse, hasn't any longer."""
-        flow = Flow(len(self.flows.all), key[12], number, seconds, sequence_of(data, self.at) if flags == SYN else -1)
-        flow.has_begun = key[12] != TCP or flags == SYN
+        begun_with = sequence_of(data, self.at) if flags == SYN else -1
+        flow = Flow(len(self.flows.all), kind_of(key), number, seconds, begun_with)
+        flow.has_begun = flow.kind != TCP or flags == SYN
         self.flows.all.append(flow)
         place = self.find.get(key)
         before = self.owner[place] if place else None
@@ -435,7 +438,7 @@ class Reader:
         before = self.left.get(key)
         if not before:
             return False
-        if key[12] == TCP:
+        if kind_of(key) == TCP:
             return is_lone_syn(data, self.at, key) and before.flow.begun_with != sequence_of(data, self.at)
         return seconds - before.flow.last >= FORGOTTEN
 
@@ -478,7 +481,7 @@ class Reader:
         other = self.owner[place] if place else None
         if (not other or other.flow is flow or flow.first != came.record or flow.begun_with >= 0
                 or other.flow.is_own or other.other.is_known
-                or seconds - other.flow.last >= self.limits[inverted[12]]):
+                or seconds - other.flow.last >= self.limits[kind_of(inverted)]):
             return direction
         side, record = other.other, came.record
         self.place_of(came.key, side)
@@ -491,8 +494,8 @@ class Reader:
     def sweep(self, seconds: int) -> None:
         """Forgets the tuples of what has expired."""
         limits, lasts = self.limits, [one.flow.last if one else 0 for one in self.owner]
-        self.find = {key: place for key, place in self.find.items() if seconds - lasts[place] < limits[key[12]]}
-        self.left = {key: one for key, one in self.left.items() if seconds - one.flow.last < limits[key[12]]}
+        self.find = {key: place for key, place in self.find.items() if seconds - lasts[place] < limits[kind_of(key)]}
+        self.left = {key: one for key, one in self.left.items() if seconds - one.flow.last < limits[kind_of(key)]}
         self.sweep_at = max(1 << 16, 2 * len(self.find))
 
 
@@ -504,7 +507,7 @@ def sequence_of(data: bytes, at: int, place: int = 4) -> int:
 
 def is_lone_syn(data: bytes, at: int, key: bytes) -> bool:
     """Whether a packet, whose tuple this is, begins a connection of TCP."""
-    return key[12] == TCP and data[at + 4 * (data[at] & 15) + 13] & (FIN | SYN | RST | ACK) == SYN
+    return kind_of(key) == TCP and data[at + 4 * (data[at] & 15) + 13] & (FIN | SYN | RST | ACK) == SYN
 
 
 def has_common_end(asked: bytes, answer: bytes) -> bool:
@@ -514,6 +517,6 @@ def has_common_end(asked: bytes, answer: bytes) -> bool:
 
 def likeness(came: bytes, left: bytes) -> float:
     """How much of a tuple stayed: the destination, the source, at least its port."""
-    same_port = came[8:10] == left[8:10]
-    same_destination = came[4:8] == left[4:8] and came[10:12] == left[10:12]
-    return same_destination + (came[:4] == left[:4] and same_port) + same_port / 2
+    same_port = source_port(came) == source_port(left)
+    same_destination = destination_end(came) == destination_end(left)
+    return same_destination + (source_of(came) == source_of(left) and same_port) + same_port / 2

@@ -3,14 +3,14 @@ from __future__ import annotations
 
 import json
 from itertools import islice
-from typing import TYPE_CHECKING, Callable, Dict, Iterator, TypeVar
+from typing import TYPE_CHECKING, Callable, Dict, Iterator, Tuple, TypeVar
 
 from toolbox.captures import (
     BROADCAST, LINK_LENGTHS, LINUX_SLL2, MULTICAST, OTHER_STATION, SENT_BY_US, header_of, packet_at, records)
 from toolbox.flows import ERROR, MOST_READ
 from toolbox.packets import (
-    ANSWER, ASK, ECHO_REPLY, ECHO_REQUEST, ICMP, PORTED, PROTOCOL_NAMES, TCP, UDP, address_text, error_tuple_at,
-    inverse, tuple_at)
+    ASK, ECHO_REPLY, ECHO_REQUEST, ECHOES, ICMP, PORTED, PROTOCOL_NAMES, TCP, UDP, address_text, destination_of,
+    destination_port, error_tuple_at, identifier_of, inverse, kind_of, source_of, source_port, tuple_at)
 from toolbox.reports import Log, event_of, text_of, traced_records
 
 if TYPE_CHECKING:
@@ -18,7 +18,6 @@ if TYPE_CHECKING:
     from toolbox.flows import Flows
     from toolbox.rulesets import Ruleset
 
-ECHOES = (ASK[0], ANSWER[0])
 DIRECTIONS = ('"original"', '"reply"')
 MOST_CACHED = 1 << 16
 # what a record of LINUX_SLL2 is that was dropped for `link`, by its packet type
@@ -29,6 +28,7 @@ OUT_LINK = LINK_LENGTHS[LINUX_SLL2]
 
 Known = TypeVar("Known")
 Told = Dict[str, object]  # what becomes an object of JSON
+Echo = Tuple[bytes, int]  # the tuple of an echo, and its code
 
 
 class Cache(Dict[Known, str]):
@@ -65,15 +65,15 @@ def events_cache(ruleset: Ruleset | None = None) -> Cache[bytes]:
 
 def tuple_json(key: bytes) -> Told:
     """The parts of a tuple."""
-    kind = key[12]
-    told: Told = {"protocol": PROTOCOL_NAMES.get(kind, str(kind)), "saddr": address_text(key[:4]),
-                  "daddr": address_text(key[4:8])}
-    if kind in (TCP, UDP):
-        told["sport"], told["dport"] = int.from_bytes(key[8:10], "big"), int.from_bytes(key[10:12], "big")
-    elif kind in (ICMP, 255):
+    kind = kind_of(key)
+    told: Told = {"protocol": PROTOCOL_NAMES.get(kind, str(kind)), "saddr": address_text(source_of(key)),
+                  "daddr": address_text(destination_of(key))}
+    if kind in PORTED:
+        told["sport"], told["dport"] = source_port(key), destination_port(key)
+    elif kind in ECHOES:
         told["protocol"] = "icmp"
-        told["type"] = ECHO_REQUEST if kind == ICMP else ECHO_REPLY
-        told["id"] = int.from_bytes(key[8:10] if kind == ICMP else key[10:12], "big")
+        told["type"] = ECHO_REQUEST if kind == ASK else ECHO_REPLY
+        told["id"] = identifier_of(key)
     return told
 
 
@@ -104,32 +104,31 @@ class PacketTexts:
 
     def __init__(self) -> None:
         self.kept: Cache[bytes] = Cache(self.ports_text)
-        self.echoes: Cache[bytes] = Cache(self.echo_text)
+        self.echoes: Cache[Echo] = Cache(self.echo_text)
         self.addresses: Cache[bytes] = Cache(address_text)
 
     def ends_text(self, protocol: str, key: bytes) -> str:
-        source, destination = self.addresses[key[:4]], self.addresses[key[4:8]]
+        source, destination = self.addresses[source_of(key)], self.addresses[destination_of(key)]
         return f'{{"protocol": "{protocol}", "saddr": "{source}", "daddr": "{destination}"'
 
     def ports_text(self, key: bytes) -> str:
-        return (f'{self.ends_text(PROTOCOL_NAMES[key[12]], key)}, "sport": {key[8] << 8 | key[9]}, '
-                f'"dport": {key[10] << 8 | key[11]}}}')
+        return (f'{self.ends_text(PROTOCOL_NAMES[kind_of(key)], key)}, "sport": {source_port(key)}, '
+                f'"dport": {destination_port(key)}}}')
 
-    def echo_text(self, key: bytes) -> str:
-        is_request = key[12] == ASK[0]
-        identifier = key[8] << 8 | key[9] if is_request else key[10] << 8 | key[11]
-        return (f'{self.ends_text("icmp", key)}, "type": {ECHO_REQUEST if is_request else ECHO_REPLY}, '
-                f'"code": {key[13]}, "id": {identifier}}}')
+    def echo_text(self, echo: Echo) -> str:
+        key, code = echo
+        return (f'{self.ends_text("icmp", key)}, "type": {ECHO_REQUEST if kind_of(key) == ASK else ECHO_REPLY}, '
+                f'"code": {code}, "id": {identifier_of(key)}}}')
 
     def text(self, data: bytes, at: int | None) -> str:
         key = None if at is None else tuple_at(data, at)
         if key is None or at is None:
             return json.dumps(packet_json(data, at))
-        if key[12] in PORTED:
+        kind = kind_of(key)
+        if kind in PORTED:
             return self.kept[key]
-        if key[12] in ECHOES and data[at + 9] == ICMP:
-            code = at + 4 * (data[at] & 15) + 1
-            return self.echoes[key + data[code:code + 1]]
+        if kind in ECHOES and data[at + 9] == ICMP:
+            return self.echoes[key, data[at + 4 * (data[at] & 15) + 1]]
         return json.dumps(packet_json(data, at))
 
 

@@ -5,6 +5,7 @@ addresses of IPv6 and of Ethernet, durations, names that end in `*`, and variabl
 """
 from __future__ import annotations
 
+import enum
 import re
 from dataclasses import dataclass
 from ipaddress import IPv6Address
@@ -19,12 +20,29 @@ class Source:
     text: str
 
 
+class Kind(enum.Enum):
+    """What a token is; the values are the names of its groups in SCANNER."""
+
+    NEWLINE = "newline"
+    STRING = "string"
+    MAC = "mac"
+    SIX = "six"  # an address of IPv6
+    ADDRESS = "address"
+    TIME = "time"
+    NUMBER = "number"
+    WORD = "word"
+    WILD = "wild"  # a name that ends in `*`
+    VARIABLE = "variable"
+    MARK = "mark"
+    UNKNOWN = "other"  # a character that begins no token
+    END = "end"  # no token of a text: what readers find behind the last one
+
+
 @dataclass(frozen=True)
 class Token:
-    """`kind` is the name of its group in SCANNER, or `other` of a character that begins no token. `start` and `end` are
-    places in the text of `source`; negative where it doesn't stand there."""
+    """`start` and `end` are places in the text of `source`; negative where it doesn't stand there."""
 
-    kind: str
+    kind: Kind
     text: str
     source: Source
     line: int
@@ -57,7 +75,7 @@ SCANNER = re.compile(
     re.VERBOSE | re.DOTALL,
 )
 NOT_SIX = re.compile(rf"(?P<number>0x[0-9A-Fa-f]+|[0-9]+)|(?P<word>{WORD})|(?P<mark>:)")
-UNKNOWN = "other"
+KINDS = {kind.value: kind for kind in Kind}
 
 
 def is_six(text: str) -> bool:
@@ -77,10 +95,10 @@ def tokens_in(source: Source) -> Iterator[Token]:
     """All tokens of a text but blanks, in order."""
     at, line, text = 0, 1, source.text
     for found in matches_in(text):
-        begin, at, kind = at, found.end(), found.lastgroup or ""
-        if kind != "blank":
-            yield Token(kind, found[0], source, line, begin, at)
-        if kind == "newline" or kind == "blank" and text[at - 1] == "\n":
+        begin, at, group = at, found.end(), found.lastgroup or ""
+        if group != "blank":
+            yield Token(KINDS[group], found[0], source, line, begin, at)
+        if group == "newline" or group == "blank" and text[at - 1] == "\n":
             line += 1
 
 

@@ -2,11 +2,13 @@
 
 A tuple is 13 bytes: source and destination address, source and destination port, as they stand in a packet, and the
 kind. The kind is the protocol's number, but 1 for an echo request and 255 (which is reserved) for an echo reply; an
-echo's identifier stands in a port's place, as conntrack has it. An end is 6 bytes, address and port.
+echo's identifier stands in a port's place, as conntrack has it. An end is 6 bytes, address and port; a service 3 bytes,
+port and kind. They are bytes, since a capture has 10^6 of them; what makes them and takes them apart stands here alone.
 """
 from __future__ import annotations
 
 import struct
+from operator import itemgetter
 from typing import Callable, Sequence, Union, cast
 
 Bytes = Union[bytes, bytearray]
@@ -15,10 +17,19 @@ PORTED = (TCP, UDP)
 NOT_WHOLE = 0x3FFF  # of flags and offset: what is set in a fragment
 # of a packet with a usual header: version and header length, flags and offset, protocol, both addresses and ports
 usual_parts = cast("Callable[[bytes, int], tuple[int, int, int, bytes]]", struct.Struct(">B5xHxB2x12s").unpack_from)
-ASK, ANSWER, TCP_KIND, UDP_KIND = b"\x01", b"\xff", bytes([TCP]), bytes([UDP])
-PARTS = struct.Struct("4s4s2s2s1s")
-parts_of = cast("Callable[[bytes], tuple[bytes, bytes, bytes, bytes, bytes]]", PARTS.unpack)
-joined_parts: Callable[[bytes, bytes, bytes, bytes, bytes], bytes] = PARTS.pack
+ASK, ANSWER = ECHOES = 1, 255  # kinds that are no protocol's number
+ASK_BYTE, ANSWER_BYTE, TCP_BYTE, UDP_BYTE = bytes([ASK]), bytes([ANSWER]), bytes([TCP]), bytes([UDP])
+# a tuple's parts: source, destination, source port, destination port, kind
+PARTS = struct.Struct("4s4s2s2sB")
+parts_of = cast("Callable[[bytes], tuple[bytes, bytes, bytes, bytes, int]]", PARTS.unpack)
+joined_parts: Callable[[bytes, bytes, bytes, bytes, int], bytes] = PARTS.pack
+# one part of a tuple: getters, since they are asked of each record, and a function of Python takes longer
+KIND = 12
+kind_of = cast("Callable[[bytes], int]", itemgetter(KIND))
+source_of = cast("Callable[[bytes], bytes]", itemgetter(slice(0, 4)))
+destination_of = cast("Callable[[bytes], bytes]", itemgetter(slice(4, 8)))
+service_of = cast("Callable[[bytes], bytes]", itemgetter(slice(10, 13)))  # to which it goes
+NO_TUPLE = bytes(PARTS.size)
 USUAL_HEADER = 0x45  # version 4, without options
 ECHO_REPLY, ECHO_REQUEST = 0, 8
 ICMP_ERRORS = frozenset((3, 4, 5, 11, 12))
@@ -38,9 +49,9 @@ def tuple_at(data: bytes, at: int, cut: bool = False) -> bytes | None:
         version, fragment, protocol, ends = usual_parts(data, at)
         if version == USUAL_HEADER and not fragment & NOT_WHOLE:
             if protocol == TCP:
-                return ends + TCP_KIND
+                return ends + TCP_BYTE
             if protocol == UDP:
-                return ends + UDP_KIND
+                return ends + UDP_BYTE
     if size < at + 24 or data[at] >> 4 != 4 or data[at + 6] & 0x3F or data[at + 7]:
         return None
     protocol, behind = data[at + 9], at + 4 * (data[at] & 15)
@@ -51,10 +62,20 @@ def tuple_at(data: bytes, at: int, cut: bool = False) -> bytes | None:
     if protocol != ICMP:
         return data[at + 12:at + 20] + NO_PORT + NO_PORT + data[at + 9:at + 10]
     if data[behind] == ECHO_REQUEST:
-        return data[at + 12:at + 20] + data[behind + 4:behind + 6] + NO_PORT + ASK
+        return data[at + 12:at + 20] + data[behind + 4:behind + 6] + NO_PORT + ASK_BYTE
     if data[behind] == ECHO_REPLY:
-        return data[at + 12:at + 20] + NO_PORT + data[behind + 4:behind + 6] + ANSWER
+        return data[at + 12:at + 20] + NO_PORT + data[behind + 4:behind + 6] + ANSWER_BYTE
     return None
+
+
+def sent_tuples(piece: bytes, starts: Sequence[int], at: int, most: int) -> list[bytes | None]:
+    """The tuples of the IPv4 packets that stand `at` bytes behind `starts`; None where one has none, or is no packet.
+    None of them is a fragment. Of each `most` bytes are looked at."""
+    protocol, ends = at + 9, at + 12
+    return [
+        piece[start + ends:start + ends + 12] + piece[start + protocol:start + protocol + 1]
+        if piece[start + at] == USUAL_HEADER and piece[start + protocol] in PORTED
+        else tuple_at(piece[start:start + most], at) for start in starts]
 
 
 def error_tuple_at(data: bytes, at: int) -> bytes | None:
@@ -69,7 +90,7 @@ def error_tuple_at(data: bytes, at: int) -> bytes | None:
     return inner and inverse(inner)
 
 
-def inverse_kind(kind: bytes) -> bytes:
+def inverse_kind(kind: int) -> int:
     return {ASK: ANSWER, ANSWER: ASK}.get(kind, kind)
 
 
@@ -86,6 +107,35 @@ def source_end(key: bytes) -> bytes:
 
 def destination_end(key: bytes) -> bytes:
     return key[4:8] + key[10:12]
+
+
+def source_port(key: bytes) -> int:
+    return int.from_bytes(key[8:10], "big")
+
+
+def destination_port(key: bytes) -> int:
+    return int.from_bytes(key[10:12], "big")
+
+
+def identifier_of(key: bytes) -> int:
+    """Of an echo."""
+    return source_port(key) if kind_of(key) == ASK else destination_port(key)
+
+
+def address_of(end: bytes) -> bytes:
+    return end[:4]
+
+
+def port_of(end: bytes) -> int:
+    return int.from_bytes(end[4:6], "big")
+
+
+def service_port(service: bytes) -> int:
+    return int.from_bytes(service[:2], "big")
+
+
+def service_kind(service: bytes) -> int:
+    return service[2]
 
 
 def identity(data: bytes, at: int) -> bytes:
@@ -214,19 +264,17 @@ def address_text(address: bytes) -> str:
 
 def end_text(end: bytes) -> str:
     """203.0.113.1:5000"""
-    return f"{address_text(end[:4])}:{int.from_bytes(end[4:6], 'big')}"
+    return f"{address_text(address_of(end))}:{port_of(end)}"
 
 
 def tuple_text(key: bytes) -> str:
     """udp 192.168.1.10:5000 > 198.51.100.7:53"""
-    kind = key[12]
-    if kind in (TCP, UDP):
+    kind = kind_of(key)
+    if kind in PORTED:
         return f"{PROTOCOL_NAMES[kind]} {end_text(source_end(key))} > {end_text(destination_end(key))}"
-    addresses = f"{address_text(key[:4])} > {address_text(key[4:8])}"
-    if kind == ASK[0]:
-        return f"icmp {addresses} echo-request id {int.from_bytes(key[8:10], 'big')}"
-    if kind == ANSWER[0]:
-        return f"icmp {addresses} echo-reply id {int.from_bytes(key[10:12], 'big')}"
+    addresses = f"{address_text(source_of(key))} > {address_text(destination_of(key))}"
+    if kind in ECHOES:
+        return f"icmp {addresses} {'echo-request' if kind == ASK else 'echo-reply'} id {identifier_of(key)}"
     return f"protocol {kind} {addresses}"
 
 

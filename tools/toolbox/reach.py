@@ -3,6 +3,7 @@ from __future__ import annotations
 
 from typing import TYPE_CHECKING, Iterator
 
+from toolbox.lexer import Kind
 from toolbox.rulesets import ENDS, OPERATORS, TRANSLATIONS
 
 if TYPE_CHECKING:
@@ -82,13 +83,13 @@ def interface_matches(rule: Rule) -> Iterator[tuple[str, str]]:
     """Each selector of an interface that is compared with one name, and that name."""
     tokens = rule.tokens
     for place, token in enumerate(tokens[:-1]):
-        if token.kind != "word" or token.text not in ENTERING + LEAVING:
+        if token.kind is not Kind.WORD or token.text not in ENTERING + LEAVING:
             continue
         value = tokens[place + 1]
         if value.text == "==" and place + 2 < len(tokens):
             value = tokens[place + 2]
         name = value.text.strip('"')
-        is_one = value.kind in ("word", "string") and not name.endswith("*")
+        is_one = value.kind in (Kind.WORD, Kind.STRING) and not name.endswith("*")
         if is_one and value.text not in (*OPERATORS, "map", "vmap"):
             yield token.text, name
 

@@ -11,13 +11,14 @@ import os
 import shutil
 import struct
 from array import array
+from enum import IntEnum
 from typing import TYPE_CHECKING, Iterator, List, Optional, Tuple
 
 from toolbox import program
 from toolbox.captures import LINK_LENGTHS, LINUX_SLL2, OTHER_STATION, RAW_IP, called, header_of, pieces, records
 from toolbox.commands import Refused
 from toolbox.flows import ERROR, OPENER, OTHER, SYN_ACK
-from toolbox.packets import PORTED, TCP, USUAL_HEADER, destination_end, inverse, source_end, tuple_at, with_destination
+from toolbox.packets import TCP, destination_end, inverse, sent_tuples, source_end, with_destination
 from toolbox.reports import outcomes_of
 
 if TYPE_CHECKING:
@@ -25,14 +26,20 @@ if TYPE_CHECKING:
 
 # Where a record goes: as it came, to an end (its place in `ends`, from 1), or nowhere
 AS_CAPTURED, NOT_SENT = 0, 0xFFFFFFFF
-# Why a flow's later records aren't sent: what begins it didn't go through; another host would answer
-STOPPED, ELSEWHERE = 1, 2
 PASSED, LOCAL = 1, 2  # as `outcomes_of` numbers them here
 OUT_LINK = LINK_LENGTHS[LINUX_SLL2]
 MOST_ROUNDS = 12
 # of the original side and of the reply, by the flow's number, a tuple
 Tuples = Tuple[List[Optional[bytes]], List[Optional[bytes]]]
 MOST_CHANGED = 2048  # bytes of a record within which its headers stand, or the whole datagram of an ICMP error
+
+
+class Cut(IntEnum):
+    """Why a flow's later records aren't sent: what begins it didn't go through; another host would answer."""
+
+    NOT = 0
+    STOPPED = 1
+    ELSEWHERE = 2
 
 
 class Files:
@@ -189,12 +196,8 @@ def silence(file: int, offset: int, link_type: int) -> None:
 
 def left_tuples(path: str) -> Iterator[bytes | None]:
     """The tuple of each packet that a run sent, or None. A run sends no fragments."""
-    header, protocol, ends = OUT_LINK, OUT_LINK + 9, OUT_LINK + 12
     for piece, _, starts, _ in pieces(path):
-        yield from [
-            piece[at + ends:at + ends + 12] + piece[at + protocol:at + protocol + 1]
-            if piece[at + header] == USUAL_HEADER and piece[at + protocol] in PORTED
-            else tuple_at(piece[at:at + OUT_LINK + 108], OUT_LINK) for at in starts]
+        yield from sent_tuples(piece, starts, OUT_LINK, OUT_LINK + 108)
 
 
 class Decisions:
@@ -272,9 +275,9 @@ class Decisions:
             return True
         answered, acked = flow.answered, flow.acked
         if answered and record >= answered and not (self.passed[number] or self.delivered[number]):
-            self.cut[number] = STOPPED
+            self.cut[number] = Cut.STOPPED
         elif acked and record >= acked and flow.saw_syn_ack and not self.acknowledged[number]:
-            self.cut[number] = STOPPED
+            self.cut[number] = Cut.STOPPED
         else:
             last = acked if flow.kind == TCP else answered
             self.fine[number] = 0 < last <= record
@@ -299,7 +302,7 @@ class Decisions:
         return True
 
     def goes_elsewhere(self, record: int, flow: int) -> None:
-        self.cut[flow], self.fine[flow], self.to[record] = ELSEWHERE, 0, NOT_SENT
+        self.cut[flow], self.fine[flow], self.to[record] = Cut.ELSEWHERE, 0, NOT_SENT
 
     def look_for_join(self, record: int, flow: int) -> None:
         """Whether this flow is the other side of an earlier one, as what left of that one tells."""

@@ -14,7 +14,7 @@ from typing import TYPE_CHECKING, Collection, Iterator, Tuple
 from toolbox.captures import IPV4, LINK_LENGTHS, LINUX_SLL2, SENT_BY_US, TO_US, records
 from toolbox.commands import plural
 from toolbox.flows import MOST_ALIKE, MOST_READ, WINDOW, likeness
-from toolbox.packets import TCP, error_tuple_at, identity, tuple_at
+from toolbox.packets import NO_TUPLE, TCP, destination_of, error_tuple_at, identity, tuple_at
 from toolbox.replay import NOT_SENT
 
 if TYPE_CHECKING:
@@ -24,7 +24,6 @@ if TYPE_CHECKING:
 
 AT = LINK_LENGTHS[LINUX_SLL2]
 TTL, DESTINATION = AT + 8, slice(AT + 16, AT + 20)
-NO_TUPLE = bytes(13)
 MOST_WAYS, MOST_RECORDS = 5, 5
 SEVERAL_TABLES = ("policy routing (ip rule, a VRF, a second uplink), or a route that the box file lacks: it has one "
                   "table of routes, so these packets met other rules on the router")
@@ -305,7 +304,7 @@ class Router:
         flows = self.of
         first = flow.first
         limit = self.box.limits()[flow.kind]
-        return (flow.kind != TCP and flows.tuple_of(first)[4:8] in self.box.addresses
+        return (flow.kind != TCP and destination_of(flows.tuple_of(first)) in self.box.addresses
                 and flows.seconds(first) - flows.seconds(1) < limit)
 
     def told(self) -> list[tuple[Way, Astray]]:

@@ -9,7 +9,7 @@ from typing import Iterator, Sequence
 
 from toolbox.commands import Refused, read_text
 from toolbox.language import NFT
-from toolbox.lexer import Token, tokens_of
+from toolbox.lexer import Kind, Token, tokens_of
 
 # Selectors whose values may be spelled like statements: an interface may be called `log`,
 # `redirect` is a type of ICMP, and `snat` a status.
@@ -106,7 +106,7 @@ class Ruleset:
         """The chains of the table that a rule leads to, also by a verdict map, written there or named."""
         table = rule.chain.rsplit(" ", 1)[0]
         led = [name for tokens in (rule.tokens, *(one.tokens for one in self.sets_of(rule)))
-               for word, name in zip(tokens, tokens[1:]) if word.kind == "word" and word.text in ("jump", "goto")]
+               for word, name in zip(tokens, tokens[1:]) if word.kind is Kind.WORD and word.text in ("jump", "goto")]
         names = dict.fromkeys(f"{table} {token.text}" for token in led)
         return [self.by_name[name] for name in names if name in self.by_name]
 
@@ -214,7 +214,7 @@ def lines_of_chain(tokens: list[Token]) -> Iterator[list[Token]]:
             if line:
                 yield line
             line = []
-        elif token.kind != "newline":
+        elif token.kind is not Kind.NEWLINE:
             line.append(token)
     if line:
         yield line
@@ -249,7 +249,7 @@ def statement_words(tokens: list[Token]) -> Iterator[str]:
         elif text in WORDY_SELECTORS:
             position = behind_value(tokens, position + 1)
         else:
-            if kind in ("word", "number"):
+            if kind in (Kind.WORD, Kind.NUMBER):
                 yield text
             position += 2 if text in ("jump", "goto") else 1
 
@@ -261,7 +261,7 @@ def behind_value(tokens: list[Token], position: int) -> int:
         position += 1
     if texts[position] in ("map", "vmap") and texts[position + 1] in ("@", "{"):
         return position
-    while position < len(tokens) and tokens[position].kind in ("word", "wild"):
+    while position < len(tokens) and tokens[position].kind in (Kind.WORD, Kind.WILD):
         position += 1
         if texts[position] not in (",", "-"):
             break

@@ -9,7 +9,7 @@ from typing import TYPE_CHECKING, Iterator
 
 from toolbox.captures import LINK_LENGTHS, LINUX_SLL2, header_of, records
 from toolbox.flows import MOST_READ
-from toolbox.packets import ACK, ANSWER, FIN, RST, SYN, TCP, inverse, tuple_at
+from toolbox.packets import ACK, ANSWER, FIN, RST, SYN, TCP, inverse, kind_of, source_of, tuple_at
 from toolbox.replay import LOCAL, PASSED
 
 if TYPE_CHECKING:
@@ -74,7 +74,7 @@ class Table:
             frame = next(lefts)
             if flows.of[record] and not flows.is_error(record):
                 key, at = flows.tuple_of(record), LINK_LENGTHS[flows.link_type]
-                flags = data[at + 4 * (data[at] & 15) + 13] if key[12] == TCP else 0
+                flags = data[at + 4 * (data[at] & 15) + 13] if kind_of(key) == TCP else 0
                 self.take(record, key, flags, frame)
             if record == self.until:
                 return
@@ -86,13 +86,13 @@ class Table:
         if one is not None and one.key == key and flags == SYN and one.is_closing():
             self.end(one)
             one = None
-        if self.replay.outcomes[record] not in (PASSED, LOCAL) or one is None and key[12] == ANSWER[0]:
+        if self.replay.outcomes[record] not in (PASSED, LOCAL) or one is None and kind_of(key) == ANSWER:
             return
         if one is None:
             one = Connection(key, inverse(frame and tuple_at(frame, AT) or key))
             self.found[one.reply] = self.found[key] = one
             self.live, self.begun = self.live + 1, self.begun + 1
-            self.hosts[key[:4]] += 1
+            self.hosts[source_of(key)] += 1
             if self.live > self.most.most:
                 self.most = Fullness(self.live, record, self.latest)
         one.flags[one.key != key] |= flags
@@ -101,9 +101,10 @@ class Table:
             heapq.heappush(self.expiring, (one.ends, record, one))
 
     def limit(self, one: Connection) -> int:
-        if one.key[12] == TCP and (one.is_closing() or not one.is_established()):
+        kind = kind_of(one.key)
+        if kind == TCP and (one.is_closing() or not one.is_established()):
             return self.box.idle["transitory"]
-        return self.limits[one.key[12]]
+        return self.limits[kind]
 
     def expire(self) -> None:
         """Ends what was idle for its limit; what had packets since waits on."""
@@ -121,7 +122,7 @@ class Table:
             if self.found.get(key) is one:
                 del self.found[key]
         self.live -= 1
-        self.hosts[one.key[:4]] -= 1
+        self.hosts[source_of(one.key)] -= 1
 
 
 def fullest(replay: Replay, box: Box) -> tuple[Table, Counter[bytes]]:
@@ -138,5 +139,5 @@ def without_room(replay: Replay) -> Iterator[tuple[str, Counter[bytes]]]:
         return
     for record, outcome in enumerate(replay.outcomes):
         if outcome in causes and flows.of[record]:
-            by_cause[causes[outcome]][flows.tuple_of(record)[:4]] += 1
+            by_cause[causes[outcome]][source_of(flows.tuple_of(record))] += 1
     yield from ((cause, senders) for cause, senders in by_cause.items() if senders)

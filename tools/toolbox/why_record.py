@@ -10,7 +10,8 @@ from toolbox.captures import (
     LINK_LENGTHS, LINUX_SLL2, RECORD_HEADER, SENT_BY_US, called, header_of, interface_of, packet_at, records)
 from toolbox.commands import Refused
 from toolbox.flows import Flows
-from toolbox.packets import TCP, describe, destination_end, end_text, flags_text, inverse, source_end, tuple_at
+from toolbox.packets import (
+    TCP, describe, destination_end, end_text, flags_text, inverse, kind_of, source_end, tuple_at)
 from toolbox.replay import AS_CAPTURED, Replay
 from toolbox.reports import THROUGH, Decision, event_of, events_of_some
 from toolbox.router import Router
@@ -106,7 +107,7 @@ class Why:
         outside = destination_end(self.key)
         left_as, _ = self.left_as
         for flow, left in zip(self.flows.all, left_as):
-            if left and left[12] == self.key[12] and source_end(left) == outside:
+            if left and kind_of(left) == kind_of(self.key) and source_end(left) == outside:
                 inside = source_end(self.flows.tuple_of(flow.first))
                 return inside if inside != outside else None
         return None
@@ -133,7 +134,7 @@ class Why:
         if self.at is None or len(self.data) < self.at + 20:
             return [f"{came}, {len(self.data)} bytes"]
         flags = ""
-        if self.key is not None and self.key[12] == TCP:
+        if self.key is not None and kind_of(self.key) == TCP:
             flags = f", {flags_text(self.data[self.at + 4 * (self.data[self.at] & 15) + 13])}"
         length = int.from_bytes(self.data[self.at + 2:self.at + 4], "big")
         is_copy = self.link_type == LINUX_SLL2 and self.data[10] == SENT_BY_US
@@ -195,7 +196,7 @@ class Why:
         at = packet_at(data, self.link_type)
         key = None if at is None else tuple_at(data, at)
         flags = ""
-        if at is not None and key is not None and key[12] == TCP:
+        if at is not None and key is not None and kind_of(key) == TCP:
             flags = f" {flags_text(data[at + 4 * (data[at] & 15) + 13])}"
         mark = ">" if number == self.record else " "
         return f"{mark} {number} at {moment}, {direction}: {describe(data, at)}{flags}; {self.result(number)}"

@@ -5,7 +5,7 @@ from __future__ import annotations
 from dataclasses import dataclass
 from typing import TYPE_CHECKING, Iterator, Tuple
 
-from toolbox.packets import checksum, inverse
+from toolbox.packets import checksum, inverse, kind_of
 
 if TYPE_CHECKING:
     from toolbox.boxes import Box
@@ -87,7 +87,7 @@ class Clock:
             return
         if self.latest > self.until:
             self.end_jump()
-        elif last and key in self.before and self.jump.seconds >= self.limits[key[12]]:
+        elif last and key in self.before and self.jump.seconds >= self.limits[kind_of(key)]:
             self.goes_on.add(min(key, inverse(key)))
 
     def end_jump(self) -> None:

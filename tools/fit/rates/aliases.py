@@ -4,7 +4,7 @@ from __future__ import annotations
 from dataclasses import dataclass
 from typing import Iterator, Mapping, Sequence
 
-from toolbox.lexer import Source, Token
+from toolbox.lexer import Kind, Source, Token
 
 from ..facts import TYPES
 from ..scanner import Refused, scan
@@ -47,7 +47,7 @@ class Aliases:
     def of(self, token: Token) -> list[str]:
         """The interfaces that stand for those which a value names."""
         name = token.text.strip('"')
-        if token.kind == "number":
+        if token.kind is Kind.NUMBER:
             name = self.indices.get(int(token.text, 0), "")
         if token.text.rstrip('"').endswith("*"):
             return [one for real, found in self.names.items() if real.startswith(name.rstrip('"').rstrip("*"))
@@ -122,7 +122,7 @@ class Aliases:
         """`{ .. }` within tokens: each element is followed by those with other interfaces."""
         begin = next(index for index, it in enumerate(tokens) if it.text == "{")
         for element in split(tokens[begin + 1:closing(tokens, begin)], ","):
-            element = [it for it in element if it.kind != "newline"]
+            element = [it for it in element if it.kind is not Kind.NEWLINE]
             if not element:
                 continue
             texts = [self.slice(element[0], element[-1])]
@@ -140,7 +140,7 @@ def values_in(element: Sequence[Token], columns: Sequence[bool]) -> Iterator[Tok
     """The values of an element's key that are interfaces; a key has one such part."""
     column = 0
     for token in element:
-        if token.text in (":", "comment") and token.kind in ("mark", "word"):
+        if token.text in (":", "comment") and token.kind in (Kind.MARK, Kind.WORD):
             return
         if token.text == ".":
             column += 1
@@ -163,7 +163,7 @@ def closing(tokens: Sequence[Token], begin: int) -> int:
     """Where the brace ends that stands at `begin`."""
     depth = 0
     for index in range(begin, len(tokens)):
-        if tokens[index].kind == "mark":
+        if tokens[index].kind is Kind.MARK:
             depth += (tokens[index].text == "{") - (tokens[index].text == "}")
         if not depth:
             return index
@@ -173,7 +173,7 @@ def closing(tokens: Sequence[Token], begin: int) -> int:
 def split(tokens: Sequence[Token], mark: str) -> Iterator[list[Token]]:
     found: list[Token] = []
     for token in tokens:
-        if token.kind == "mark" and token.text == mark:
+        if token.kind is Kind.MARK and token.text == mark:
             yield found
             found = []
         else:
@@ -186,9 +186,9 @@ def lines_of(body: Sequence[Token]) -> Iterator[list[Token]]:
     found: list[Token] = []
     depth = 0
     for token in body:
-        if token.kind == "mark":
+        if token.kind is Kind.MARK:
             depth += (token.text == "{") - (token.text == "}")
-        if not depth and (token.kind == "newline" or token.kind == "mark" and token.text == ";"):
+        if not depth and (token.kind is Kind.NEWLINE or token.kind is Kind.MARK and token.text == ";"):
             if found:
                 yield found
             found = []

@@ -4,6 +4,7 @@ from __future__ import annotations
 from dataclasses import dataclass
 from typing import Mapping
 
+from toolbox.lexer import Kind
 from toolbox.packets import PORTED, TCP, UDP
 
 from ..facts import TYPES
@@ -106,7 +107,7 @@ def listed_key(parts: tuple[KeyPart, ...], element: Element, indices: Mapping[st
         text, kind = listed.value.text.strip('"'), TYPES[part.name]
         if kind == "ifname":
             number: int | None = name_number(text)
-        elif kind == "iface_index" and listed.value.kind != "number":
+        elif kind == "iface_index" and listed.value.kind is not Kind.NUMBER:
             number = indices.get(text)
         else:
             number = number_of(listed.value, kind)

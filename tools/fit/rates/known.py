@@ -5,7 +5,7 @@ from __future__ import annotations
 import enum
 from typing import Mapping
 
-from toolbox.packets import ACK, ANSWER, ASK, FIN, RST, SYN, TCP_KIND, UDP_KIND, inverse
+from toolbox.packets import ACK, ANSWER, ECHOES, FIN, RST, SYN, TCP, UDP, inverse, kind_of
 
 from .terms import SECOND
 
@@ -39,10 +39,11 @@ class Connection:
         self.seen[key == self.original] |= flags
         self.is_replied |= key != self.original
         self.is_closed |= bool(is_last or flags & RST)
-        if self.original[12:] == TCP_KIND:
+        kind = kind_of(self.original)
+        if kind == TCP:
             begun = (self.seen[True] | self.seen[False]) & SYN
             self.is_assured |= is_established(self.seen) if begun else self.is_replied
-        elif self.original[12:] == UDP_KIND:
+        elif kind == UDP:
             self.is_assured |= self.is_replied and moment - self.begun > STREAM
 
     def take(self, key: bytes, flags: int, moment: int) -> None:
@@ -56,10 +57,10 @@ class Connection:
 
     def kind(self) -> str:
         """The kind of its idle limit."""
-        kind = self.original[12:]
-        if kind == TCP_KIND:
+        kind = kind_of(self.original)
+        if kind == TCP:
             return "established" if is_established(self.flags) and not self.is_closing() else "transitory"
-        return "udp" if kind == UDP_KIND else "ask" if kind in (ASK, ANSWER) else "other"
+        return "udp" if kind == UDP else "ask" if kind in ECHOES else "other"
 
 
 def is_established(flags: Mapping[bool, int]) -> bool:
@@ -90,7 +91,7 @@ class Connections:
     def look_up(self, key: bytes, flags: int, moment: int) -> Connection | None:
         """The lookup of section 6.2: a lone SYN of the original direction ends a closing connection."""
         found = self.of(key, moment)
-        if found and key[12:] == TCP_KIND and flags & LONE == SYN and key == found.original and found.is_closing():
+        if found and kind_of(key) == TCP and flags & LONE == SYN and key == found.original and found.is_closing():
             self.forget(found)
             return None
         if found:
@@ -107,7 +108,7 @@ class Connections:
         left, None where it stayed in the box."""
         found = self.of(key, moment)
         if found is None:
-            if key[12:] == ANSWER:
+            if kind_of(key) == ANSWER:
                 return
             old = self.by_original.get(key)
             if old is not None:

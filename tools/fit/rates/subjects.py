@@ -5,6 +5,8 @@ from __future__ import annotations
 from dataclasses import dataclass
 from typing import TYPE_CHECKING, Iterator, Mapping, Sequence, Union
 
+from toolbox.lexer import Kind
+
 from ..expressions import as_number
 from ..grades import Grade
 from ..scanner import place
@@ -251,7 +253,7 @@ class Subjects:
             if found is None or found.what != what.kind:
                 return None
             name = SetName(draft.table.family, draft.table.name, f"{what.kind} {what.name}")
-            terms = terms_of([what.kind, *(one.text for one in found.body if one.kind != "newline")])
+            terms = terms_of([what.kind, *(one.text for one in found.body if one.kind is not Kind.NEWLINE)])
         if isinstance(terms, Count):
             self.check_tracked(draft.chain)
         return AskedBound(terms, name)

@@ -12,7 +12,7 @@ from typing import TYPE_CHECKING, Hashable, Iterable, Iterator, Sequence, Tuple
 
 from pages.listing import lines_of
 from toolbox.evidence import rule_content
-from toolbox.lexer import tokens_of
+from toolbox.lexer import Kind, tokens_of
 
 if TYPE_CHECKING:
     from toolbox.evidence import Change
@@ -117,7 +117,7 @@ def keys_of(version: Version, name_of: dict[RulePlace, Hashable]) -> Keys:
     """The keys of a text whose rules have names; other lines are compared by block and words."""
     ruleset = version.ruleset
     keys, rules = Keys(lines_of(ruleset.text)), dict[int, Tuple[Hashable, ...]]()
-    keys.meant = {token.line for token in tokens_of(ruleset.text) if token.kind != "newline"}
+    keys.meant = {token.line for token in tokens_of(ruleset.text) if token.kind is not Kind.NEWLINE}
     blocks = blocks_of(ruleset)
     for rule in ruleset.rules:
         for step, line in enumerate(range(rule.line, rule.tokens[-1].line + 1)):

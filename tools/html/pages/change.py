@@ -13,7 +13,7 @@ from toolbox.flows import Flows
 from toolbox.guard import USUAL, AllowList, Guard, Seen, unmet_of
 from toolbox.packets import TCP, address_text
 from toolbox.program import find_program
-from toolbox.replay import STOPPED, Files, Replay
+from toolbox.replay import Cut, Files, Replay
 from toolbox.router import Router
 
 if TYPE_CHECKING:
@@ -177,7 +177,7 @@ def replays(program: str, old: str, new: str, box: str, flows: Flows, folder: st
     before = Replay(program, old, box, flows, Files(folder, "old"), cuts=True)
     spared = bytearray(len(flows.all))
     for flow, cut in enumerate(before.cut):
-        if cut == STOPPED and flows.all[flow].kind != TCP and flows.all[flow].is_learned:
+        if cut == Cut.STOPPED and flows.all[flow].kind != TCP and flows.all[flow].is_learned:
             spared[flow] = 1
     if any(spared):
         before = Replay(program, old, box, flows, Files(folder, "old"), cuts=True, spared=spared, like=before)

@@ -13,7 +13,7 @@ from toolbox import program
 from toolbox.captures import (
     IPV4, LINK_LENGTHS, LINUX_SLL2, PROTOCOL_AT, SENT_BY_US, Record, header_of, interface_of, records)
 from toolbox.commands import Refused, read_text
-from toolbox.packets import TCP, address_text, describe, error_tuple_at, tuple_at
+from toolbox.packets import TCP, address_text, describe, error_tuple_at, kind_of, tuple_at
 from toolbox.replay import AS_CAPTURED, NOT_SENT
 from toolbox.reports import THROUGH, Decision, Summary, event_of, records_of, text_of
 
@@ -258,7 +258,7 @@ class Model:
 
 def flags_of(data: bytes, at: int | None, key: bytes | None) -> int:
     """The flags of a packet of TCP that has the tuple `key`; -1 of others."""
-    if at is None or key is None or key[12] != TCP:
+    if at is None or key is None or kind_of(key) != TCP:
         return -1
     return data[at + 4 * (data[at] & 15) + 13]
 
