@@ -5,6 +5,7 @@ The gate (scripts/test) and `tests/run` go by this list alone.
 from __future__ import annotations
 
 import enum
+import os
 import pathlib
 import subprocess
 import time
@@ -12,7 +13,10 @@ from dataclasses import dataclass
 from typing import Sequence
 
 TOP = pathlib.Path(__file__).resolve().parent.parent.parent
-BUILT = TOP / "crates/nftrun/out/nftrun"
+CACHE = pathlib.Path(os.environ.get("XDG_CACHE_HOME") or pathlib.Path.home() / ".cache")
+# What the gate builds, and scripts/build.
+BUILT = tuple(folder / "crates/nftrun/out/nftrun"
+              for folder in (TOP, pathlib.Path(os.environ.get("NFTRUN_BUILD") or CACHE / "nftrun-build")))
 
 
 class Place(enum.Enum):
@@ -95,6 +99,11 @@ TESTS = (
          Wanted.NONE),
 )
 BY_NAME = {test.name: test for test in TESTS}
+
+
+def built() -> pathlib.Path:
+    """The program that stands: the gate's, else that of scripts/build."""
+    return next((path for path in BUILT if path.exists()), BUILT[-1])
 
 
 def programs(program: pathlib.Path) -> list[pathlib.Path]:
