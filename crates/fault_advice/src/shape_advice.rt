@@ -1,8 +1,9 @@
 //! What to do about words that aren't read, or don't go together.
 use crate::stop::Stop;
-use advice_sentences::{Advice, Gap, NO_GAP, filled, fixed, with_text, with_texts, write_this};
+use advice::{
+    Advice, Gap, NO_GAP, Place, filled, fixed, left_out, with_text, with_texts, write_this,
+};
 use fault_places::{Level, OpenBrace, Span, Words, bytes_of, position_at, rest_from, shown, up_to};
-use nft_words::{Place, left_out};
 use std::alloc::{AllocError, Global};
 
 /// Writes what to do about a brace that is left open: of what, on which line, and the word on a line

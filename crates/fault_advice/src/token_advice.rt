@@ -1,5 +1,5 @@
 //! What to do about a word that is no token.
-use advice_sentences::{Advice, fixed, with_text};
+use advice::{Advice, fixed, with_text};
 use nft_lexer::LexFault;
 
 /// What to do about a lexical fault, where these bytes are left, which begin with a word.

@@ -1,11 +1,10 @@
 //! What to do where the grammar doesn't allow a word: the word that may be meant, or is missing.
 use crate::shape_advice::{is_list, left_out_advice, put_list_advice, shape_advice};
 use crate::stop::Stop;
-use advice_sentences::{
-    Advice, DID_YOU_MEAN, DID_YOU_MEAN_ONE_OF, Gap, NO_GAP, filled, one_of, with_text, with_texts,
-    write_this,
+use advice::{
+    Advice, DID_YOU_MEAN, DID_YOU_MEAN_ONE_OF, Gap, Kind, NO_GAP, changes, filled, kinds, one_of,
+    otherwise, with_text, with_texts, words_of, write_this,
 };
-use nft_words::{Kind, changes, kinds, otherwise, words_of};
 use std::alloc::{AllocError, Global};
 
 /// The most words that are listed as those that could stand at a place.

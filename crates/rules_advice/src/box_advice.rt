@@ -1,6 +1,6 @@
 //! What to do about a fault of a box file.
 use crate::names::interfaces;
-use advice_sentences::{Advice, DID_YOU_MEAN_ONE_OF, fixed, names_are};
+use advice::{Advice, DID_YOU_MEAN_ONE_OF, fixed, names_are};
 use box_file::BoxFault;
 use fault_places::{Span, shown};
 use std::alloc::{AllocError, Global};

@@ -6,7 +6,7 @@ use crate::name_advice::{
 use crate::type_advice::type_advice;
 use crate::types::Types;
 use crate::value_advice::value_advice;
-use advice_sentences::{Advice, fixed, greatest_is, with_text, with_texts};
+use advice::{Advice, fixed, greatest_is, with_text, with_texts};
 use rule_check::CheckFault;
 use std::alloc::{AllocError, Global};
 

@@ -1,7 +1,7 @@
 //! What to do about a name that stands twice, or isn't declared.
 use crate::around::Around;
 use crate::names::{Declared, Kind, interfaces};
-use advice_sentences::{
+use advice::{
     Advice, DID_YOU_MEAN, DID_YOU_MEAN_ONE_OF, Gap, NO_GAP, filled, fixed, names_are, with_text,
     with_texts,
 };

@@ -2,10 +2,9 @@
 use crate::around::Around;
 use crate::names::{Declared, Kind};
 use crate::types::{Type, Types};
-use advice_sentences::{
-    Advice, DID_YOU_MEAN_ONE_OF, Gap, NO_GAP, filled, fixed, no_value, one_of, with_text,
+use advice::{
+    Advice, DID_YOU_MEAN_ONE_OF, Gap, NO_GAP, filled, fixed, no_value, one_of, with_text, words_of,
 };
-use nft_words::words_of;
 
 /// What to do about types that don't fit, if it is known.
 pub fn type_advice<'a>(around: &Around<'a>, types: &'a Types) -> Option<Advice<'a>> {

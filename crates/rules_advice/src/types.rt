@@ -1,7 +1,7 @@
 //! The types of what is compared, read off the words of a rule or a set.
 use crate::around::Around;
+use advice::words_of;
 use fault_places::Words;
-use nft_words::words_of;
 use std::alloc::{AllocError, Global};
 
 /// A type, by its name; what has no name goes by its width.

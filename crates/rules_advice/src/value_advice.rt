@@ -2,11 +2,11 @@
 use crate::around::Around;
 use crate::name_advice::unquoted;
 use crate::types::{Type, Types, greatest};
-use advice_sentences::{
-    Advice, DID_YOU_MEAN_ONE_OF, fixed, greatest_is, no_value, one_of, with_texts, write_this,
+use advice::{
+    Advice, DID_YOU_MEAN_ONE_OF, fixed, greatest_is, no_value, one_of, otherwise, with_texts,
+    words_of, write_this,
 };
 use fault_places::Words;
-use nft_words::{otherwise, words_of};
 
 /// The greatest length of a prefix.
 const MOST_LENGTH: u64 = 32;

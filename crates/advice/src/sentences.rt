@@ -1,10 +1,9 @@
-//! What to do about a fault, for people: sentences, and those that are given in several places.
+//! Sentences that say what to do about a fault.
 //!
 //! Advice is chosen without taking memory, and written where it is told. It has a test where it is
-//! chosen. A word of nft(8) that isn't read is a row of `nft_words`.
-#![tactic(auto)]
+//! chosen.
 
-use nft_words::nearest;
+use crate::near::nearest;
 use std::alloc::{AllocError, Global};
 
 /// What fills a gap of a sentence.

@@ -1,0 +1,18 @@
+//! What is said of a fault, for people: the words of nft(8) that are read, by what they are, those that
+//! aren't, the one nearest to another, and sentences with them.
+//!
+//! They are a help: no contract says them, and what is printed of words is what the parser takes.
+#![tactic(auto)]
+
+mod near;
+mod sentences;
+mod unread;
+mod vocabulary;
+
+pub use near::{changes, nearest};
+pub use sentences::{
+    Advice, DID_YOU_MEAN, DID_YOU_MEAN_ONE_OF, Gap, NO_GAP, filled, fixed, greatest_is, names_are,
+    no_value, one_of, with_text, with_texts, write_this,
+};
+pub use unread::{Place, left_out};
+pub use vocabulary::{Kind, kinds, otherwise, words_of};
