@@ -33,7 +33,7 @@ pub use Rattle.pcap_io.specs.steps.Written.{gets_more, gets_none, gets_part, par
 pub use Rattle.report.specs.Report.{closing_lines, entry_lines, lines_of, report_text}
 pub use Rattle.rule_check.specs.WellFormed.{LeastFault, WellFormed}
 pub use Rattle.rule_check.specs.declared.fault.CheckFault.{CheckFault}
-pub use Rattle.rule_limits.specs.Limits.{chain_count, rule_count}
+pub use Rattle.rule_check.specs.Limits.{chain_count, rule_count}
 pub use Rattle.std.proofs.Common.{Bool, Err, IfErr, IfSome, List, None, Ok, Option, Result, Some, [], ap, append-nil, append_assoc, arith, drop, false, inl}
 pub use Rattle.std.proofs.Common.{inr, length, length-append, max, min, refl, rules, subst, sym, true, ℕ, ◌++◌, ◌-◌, ◌<◌, ◌^◌, ◌∙◌, ◌∷◌, ◌≡◌, ◌≤◌, ◌⊎◌}
 pub use Rattle.std.proofs.KnownBytes.{Appends-kept, Appends-trans, Consumes-nil, Keeps-refl}

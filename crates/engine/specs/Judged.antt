@@ -1,6 +1,6 @@
 -- The result of checking a ruleset on a box before it is loaded (own).
 use Rattle.std.specs.Prelude.{◌≡◌, ◌^◌, ◌-◌, ℕ, length, List, min}
-use Rattle.rule_limits.specs.Limits.{chain_count, rule_count}
+use Rattle.rule_check.specs.Limits.{chain_count, rule_count}
 use Rattle.rule_check.specs.WellFormed.{WellFormed}
 use Rattle.engine.specs.declared.judging.Counts.{Counts}
 use Rattle.engine.specs.declared.fault.RunFault.{RunFault}

@@ -4,7 +4,7 @@ ghost use Rattle.engine.specs.Judged.{Judged, JudgeRefuses};
 
 use crate::fault::RunFault;
 use crate::inputs::checked;
-use rule_limits::{chain_count, rule_count};
+use rule_check::{chain_count, rule_count};
 use std::alloc::Global;
 
 /// The numbers of tables, chains and rules of a ruleset, saturating at `usize::MAX`, which no

@@ -3,7 +3,7 @@ use Rattle.std.proofs.Common.{◌≡◌, ◌+◌, ◌⊎◌, ℕ, Bool, true, fa
 use Rattle.std.specs.List.{list_any}
 use Rattle.nft_tree.specs.Tree.{TableTree}
 use Rattle.box_file.specs.Box.{PlantTree}
-use Rattle.rule_limits.specs.Limits.{too_large}
+use Rattle.rule_check.specs.Limits.{too_large}
 use Rattle.rule_names.specs.Names.{DuplicateName, jumps_to_unknown_chain, refers_to_unknown_set, jumps_to_base_chain}
 use Rattle.rule_paths.specs.Paths.{Cycles, TooDeep, TooCostly, MisplacedNat}
 use Rattle.rule_types.specs.Types.{table_mismatches}

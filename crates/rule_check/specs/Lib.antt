@@ -1,3 +1,4 @@
+pub mod Limits
 pub mod Chains
 pub mod WellFormed
 pub mod Checked

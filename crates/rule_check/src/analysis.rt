@@ -10,10 +10,10 @@ ghost use Rattle.rule_check.specs.steps.FaultRanges.{IsLeastFaultIn};
 
 use crate::fault::{CheckError, CheckFault};
 use crate::heads::has_misplaced_chain;
+use crate::limits::too_large;
 use crate::terminal_statements::has_unreachable_statement;
 use box_file::Plant;
 use nft_tree::Ruleset;
-use rule_limits::too_large;
 use rule_names::{
     TableNames, jumps_to_base_chain, jumps_to_unknown_chain, names_of, refers_to_unknown_set,
 };

@@ -2,7 +2,7 @@
 //! far over the limit.
 ghost use Rattle.std.specs.Prelude.{◌≡◌, min};
 ghost use Rattle.nft_tree.specs.TreeViews.{item_tree, map_ref_tree, set_ref_tree, statement, tables_of};
-ghost use Rattle.rule_limits.specs.Limits.{element_count, item_elements, map_ref_elements, set_ref_elements, statement_elements};
+ghost use Rattle.rule_check.specs.Limits.{element_count, item_elements, map_ref_elements, set_ref_elements, statement_elements};
 
 use nft_tree::{
     DestinationTarget, Item, MapLookup, MapRef, Match, Nat, Operand, Ruleset, SetRef, SourceTarget,

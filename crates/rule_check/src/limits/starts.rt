@@ -1,7 +1,7 @@
 //! The initial values of counters.
 ghost use Rattle.std.specs.Prelude.{◌≡◌};
 ghost use Rattle.nft_tree.specs.TreeViews.{item_tree, statement, tables_of};
-ghost use Rattle.rule_limits.specs.Limits.{item_starts_too_high, some_start_too_high, starts_too_high};
+ghost use Rattle.rule_check.specs.Limits.{item_starts_too_high, some_start_too_high, starts_too_high};
 
 use nft_tree::{Item, Ruleset, Stmt, any};
 

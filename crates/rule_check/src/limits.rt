@@ -1,18 +1,16 @@
 //! The size of a ruleset, and its limits.
-#![tactic(auto)]
-
 ghost use Rattle.std.specs.Prelude.{◌≡◌};
 ghost use Rattle.nft_tree.specs.TreeViews.{tables_of};
-ghost use Rattle.rule_limits.specs.Limits.{too_large};
+ghost use Rattle.rule_check.specs.Limits.{too_large};
 
 mod counts;
 mod elements;
 mod starts;
 
-pub use counts::{chain_count, rule_count};
-use elements::element_count;
+pub use crate::limits::counts::{chain_count, rule_count};
+use crate::limits::elements::element_count;
+use crate::limits::starts::some_start_too_high;
 use nft_tree::Ruleset;
-use starts::some_start_too_high;
 
 /// The greatest number of rules.
 const MOST_RULES: usize = 16_384;

@@ -1,7 +1,7 @@
 //! The numbers of rules and chains. Sums saturate at `usize::MAX`, which no text reaches.
 ghost use Rattle.std.specs.Prelude.{◌≡◌, min};
 ghost use Rattle.nft_tree.specs.TreeViews.{item_tree, tables_of};
-ghost use Rattle.rule_limits.specs.Limits.{chain_count, item_chains, item_rules, rule_count};
+ghost use Rattle.rule_check.specs.Limits.{chain_count, item_chains, item_rules, rule_count};
 
 use nft_tree::{Item, Ruleset, sum};
 
