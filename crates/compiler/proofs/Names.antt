@@ -7,7 +7,7 @@ pub use Rattle.code_layout.specs.CodeLayout.{left_statements, rules_in}
 pub use Rattle.code_layout.specs.DroppedRules.{AreLeft, IsDropped, IsLeft, IsShadowed, always_ends, ends_chain, lists, merged_selectors, rule_at}
 pub use Rattle.compiler.specs.Compiled.{StartHead, base_chain_head, cost_in, start_cost, start_head, total_cost}
 pub use Rattle.compiler.specs.declared.compiled_chain.CompiledChain.{CompiledChain}
-pub use Rattle.compiler.specs.steps.Bases.{Ordered, Prices, PricesTable, base, costed, priced, runs_on_hook, start_of}
+pub use Rattle.compiler.specs.steps.Bases.{AreOrdered, Prices, PricesTable, base, costed, hook_starts, priced, runs_on_hook, start_of}
 pub use Rattle.compiler.specs.steps.Dropping.{FailsAt, LeadsTo, LeavesOut, LeavesOutOf, goes_on}
 pub use Rattle.filter_vm.specs.Machine.{Continuation, Stop, apply_effect, base_chain_result, enter_chain, exec, return_from, run_table, starts_of, stop}
 pub use Rattle.filter_vm.specs.declared.code.Code.{Code}

@@ -1,6 +1,6 @@
 -- Base chains in the order of the text, and what they cost.
 use Rattle.compiler.proofs.Names.{All, All-cons, All-head, All-nil, All-tail, BaseChain, ChainNo, ChainTree, Code, CompiledChain, HeadTree, Hook, List, None}
-use Rattle.compiler.proofs.Names.{Option, Ordered, Prices, Some, Start, TableTree, Text, [], ap, ap₂, arith, base, base_chain_of, base_chains_from}
+use Rattle.compiler.proofs.Names.{AreOrdered, Option, Prices, Some, Start, TableTree, Text, [], ap, ap₂, arith, base, base_chain_of, base_chains_from}
 use Rattle.compiler.proofs.Names.{base_chains_of, base_chains_of_tables, chain_cost_by, chains_of, cond, cost_in, costed, costs-long, drop, drop_more, filter}
 use Rattle.compiler.proofs.Names.{firsts-zip, fold, fold-map, get_or, get_or_from_slice_get, map, map-id, none-some, priced, refl, runs_on_hook, same_hook}
 use Rattle.compiler.proofs.Names.{slice_get, slice_get_within, slice_index, start_cost, start_of, starts_of, subst, suc, sum_by, sum_by-IsPermutation}
@@ -155,11 +155,17 @@ all_hooks (x ∷ xs) = by x.head.now.hook (all_hooks xs)
     by hooks.Prerouting is = omega (arith, sum_by-cons cost_of x)
     by _ is = omega (arith, sum_by-cons cost_of x)
 
-pub starts_total : (bases : List CompiledChain) (code : Code) → ((hook : Hook) → Ordered hook bases (starts_of code hook))
-    → total_cost code ≡ sum_by cost_of bases
+pub starts_total : (bases : List CompiledChain) (code : Code) → AreOrdered bases code → total_cost code ≡ sum_by cost_of bases
 starts_total bases code ordered =
-    let at : (h : Hook) → sum_by (λ s. s.cost) (starts_of code h) ≡ on_hook h bases =
-    λ h. ap (sum_by (λ s. s.cost)) (ordered h).starts_are ∙ fold-map (λ n (s : Start). n + s.cost) start_of 0 (ordered h).order
-    ∙ sum_by-IsPermutation cost_of (filter (runs_on_hook h) bases) (ordered h).order (ordered h).moved in
-    let all = all_hooks bases in
-    omega (arith, at hooks.Prerouting, at hooks.Input, at hooks.Forward, at hooks.Output, at hooks.Postrouting)
+    let at : (h : Hook) → sum_by (λ s. s.cost) (starts_of code h) ≡ on_hook h ordered.order =
+    λ h. ap (sum_by (λ s. s.cost)) (ordered.starts h) ∙ fold-map (λ n (s : Start). n + s.cost) start_of 0 (filter (runs_on_hook h) ordered.order) in
+    omega (
+      arith,
+      all_hooks ordered.order,
+      sum_by-IsPermutation cost_of bases ordered.order ordered.moved,
+      at hooks.Prerouting,
+      at hooks.Input,
+      at hooks.Forward,
+      at hooks.Output,
+      at hooks.Postrouting,
+    )

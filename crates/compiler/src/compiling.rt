@@ -1,5 +1,5 @@
 //! Compiles a ruleset.
-ghost use Rattle.std.specs.Prelude.{◌≡◌, ◌≤◌, ℕ, IfOk, OnOk};
+ghost use Rattle.std.specs.Prelude.{◌≡◌, ◌≤◌, ℕ, IfOk};
 ghost use Rattle.nft_tree.specs.declared.chain.Hook.{Hook};
 ghost use Rattle.nft_tree.specs.Tree.{TableTree};
 ghost use Rattle.rule_paths.specs.Paths.{AreAllCosts, Caller, ruleset_cost};
@@ -7,38 +7,21 @@ ghost use Rattle.rule_check.specs.WellFormed.{WellFormed};
 ghost use Rattle.filter_vm.specs.Machine.{starts_of};
 ghost use Rattle.compiler.specs.Compiled.{HasStarts, AgreesWithRules, total_cost};
 ghost use Rattle.code_layout.specs.CodeLayout.{AreTableCodes};
-ghost use Rattle.compiler.specs.steps.Bases.{IsRulesetCode, Ordered};
+ghost use Rattle.compiler.specs.steps.Bases.{IsRulesetCode};
 
-use crate::compiled_chain::CompiledChain;
-use crate::starts::{add_base_chains, starts_on_hook};
+use crate::starts::{add_base_chains, add_starts};
 use crate::tables::add_tables;
 use filter_vm::Code;
-use nft_tree::Hook;
 use rule_check::Checked;
 use rule_laws::{costs_rank_chains, hooks_terminate};
-use rule_names::{TableNames, names_of};
 use std::alloc::{AllocError, Global};
 
-/// Sets the starts of each hook.
-fn set_starts(alloc: Global, bases: &[CompiledChain], code: &mut Code) -> Result<(), AllocError>
-    ensures tables { code.new.tables ≡ code.old.tables }
-    ensures starts { OnOk result ((hook : Hook)
-        → Ordered hook bases.now (starts_of code.new hook)) }
-{
-    code.prerouting = starts_on_hook(alloc, Hook::Prerouting, bases)?;
-    code.input = starts_on_hook(alloc, Hook::Input, bases)?;
-    code.forward = starts_on_hook(alloc, Hook::Forward, bases)?;
-    code.output = starts_on_hook(alloc, Hook::Output, bases)?;
-    code.postrouting = starts_on_hook(alloc, Hook::Postrouting, bases)?;
-    Ok(())
-}
-
-/// The code of a ruleset with these names.
-fn named_code(alloc: Global, checked: &Checked, names: &[TableNames]) -> Result<Code, AllocError>
-    requires fine { WellFormed checked.now.rules checked.now.plant }
-    requires names { names.now ≡ checked.now.rules }
+/// The code of each table, and the starts of each hook.
+fn ruleset_code(alloc: Global, checked: &Checked) -> Result<Code, AllocError>
+    requires { WellFormed checked.now.rules checked.now.plant }
     ensures { IfOk result (λ code. IsRulesetCode checked.now code) }
 {
+    let names = checked.names(alloc)?;
     let mut code = Code {
         tables: Vec::new(alloc),
         prerouting: Vec::new(alloc),
@@ -47,23 +30,11 @@ fn named_code(alloc: Global, checked: &Checked, names: &[TableNames]) -> Result<
         output: Vec::new(alloc),
         postrouting: Vec::new(alloc),
     };
-    add_tables(alloc, checked.plant(), names, &mut code.tables)?;
+    add_tables(alloc, checked.plant(), &names, &mut code.tables)?;
     let mut bases = Vec::new(alloc);
-    add_base_chains(checked, names, &mut bases)?;
-    set_starts(alloc, &bases, &mut code)?;
+    add_base_chains(checked, &names, &mut bases)?;
+    add_starts(bases, &mut code)?;
     Ok(code)
-}
-
-/// The code of each table, and the starts of each hook.
-fn ruleset_code(alloc: Global, checked: &Checked) -> Result<Code, AllocError>
-    requires { WellFormed checked.now.rules checked.now.plant }
-    ensures { IfOk result (λ code. IsRulesetCode checked.now code) }
-{
-    let Some(names) = names_of(alloc, checked.tree())? else {
-        // A checked ruleset declares no name twice.
-        unreachable!();
-    };
-    named_code(alloc, checked, &names)
 }
 
 /// The code of a checked ruleset. Its starts are the base chains of each hook in the order in which

@@ -1,5 +1,5 @@
-//! The starts of a ruleset: its base chains, hook by hook, in the order in which they run.
-ghost use Rattle.std.specs.Prelude.{◌≡◌, ◌+◌, ◌++◌, ◌<◌, ℕ, [], false, filter, length, map, slice_get, slice_index, Some, IfOk, OnOk};
+//! The starts of a ruleset: its base chains, each at its hook, in the order in which they run.
+ghost use Rattle.std.specs.Prelude.{◌≡◌, ◌+◌, ◌++◌, ◌∷◌, ◌<◌, ℕ, [], false, length, map, slice_get, slice_index, Some, OnOk};
 ghost use Rattle.std.specs.List.{list_any};
 ghost use Rattle.nft_tree.specs.Tree.{ChainTree, HeadTree};
 ghost use Rattle.nft_tree.specs.TreeViews.{chain_tree};
@@ -7,17 +7,19 @@ ghost use Rattle.nft_tree.specs.TableItems.{chains_of};
 ghost use Rattle.rule_paths.specs.Paths.{MAX_COST};
 ghost use Rattle.rule_values.specs.Faults.{chain_out_of_range, has_wrong_value, item_out_of_range};
 ghost use Rattle.rule_meaning.specs.declared.event.ChainNo.{ChainNo};
-ghost use Rattle.rule_meaning.specs.Hooks.{base_chain_of, base_chains_from, base_chains_of, same_hook};
-ghost use Rattle.compiler.specs.steps.Bases.{costed, priced, Ordered, Prices, PricesTable, runs_on_hook, start_of};
+ghost use Rattle.rule_meaning.specs.Hooks.{base_chain_of, base_chains_from, base_chains_of};
+ghost use Rattle.filter_vm.specs.Machine.{starts_of};
+ghost use Rattle.compiler.specs.steps.Bases.{costed, hook_starts, priced, AreOrdered, Prices, PricesTable};
+ghost use Rattle.nft_tree.specs.declared.chain.Hook.{Hook as TheHook};
 
 use crate::compiled_chain::CompiledChain;
 use code_layout::to_u32;
-use filter_vm::Start;
+use filter_vm::Code;
 use nft_tree::{Chain, Hook};
 use rule_check::Checked;
 use rule_meaning::ChainNo;
 use rule_names::TableNames;
-use std::alloc::{AllocError, Global};
+use std::alloc::AllocError;
 
 /// Adds the chain, if it is a base chain.
 fn add_base<'t>(
@@ -86,51 +88,32 @@ pub(crate) fn add_base_chains<'t>(
     Ok(())
 }
 
-fn is_same(hook: Hook, other: Hook) -> bool
-    ensures { result ≡ same_hook hook other }
+/// Adds the start of a base chain to those of its hook.
+fn add_start(base: &CompiledChain, code: &mut Code) -> Result<(), AllocError>
+    ensures tables { code.new.tables ≡ code.old.tables }
+    ensures starts { OnOk result ((hook : TheHook) → starts_of code.new hook
+        ≡ starts_of code.old hook ++ hook_starts hook (base.now ∷ [])) }
 {
-    matches!(
-        (hook, other),
-        (Hook::Prerouting, Hook::Prerouting)
-            | (Hook::Input, Hook::Input)
-            | (Hook::Forward, Hook::Forward)
-            | (Hook::Output, Hook::Output)
-            | (Hook::Postrouting, Hook::Postrouting)
-    )
+    let start = base.start();
+    match base.head.hook {
+        Hook::Prerouting => Ok(code.prerouting.push(start)?),
+        Hook::Input => Ok(code.input.push(start)?),
+        Hook::Forward => Ok(code.forward.push(start)?),
+        Hook::Output => Ok(code.output.push(start)?),
+        Hook::Postrouting => Ok(code.postrouting.push(start)?),
+    }
 }
 
-/// The base chains of a hook, in text order.
-fn chains_on_hook<'t>(
-    alloc: Global,
-    hook: Hook,
-    bases: &[CompiledChain<'t>],
-) -> Result<Vec<CompiledChain<'t>>, AllocError>
-    ensures { IfOk result (λ on_hook. on_hook.items ≡ filter (runs_on_hook hook) bases.now) }
+/// Adds each base chain to the starts of its hook: by priority, and in text order where priorities
+/// are equal.
+pub(crate) fn add_starts(mut bases: Vec<CompiledChain>, code: &mut Code) -> Result<(), AllocError>
+    requires none { (hook : TheHook) → starts_of code.old hook ≡ [] }
+    ensures tables { code.new.tables ≡ code.old.tables }
+    ensures starts { OnOk result (AreOrdered bases.entry.items code.new) }
 {
-    bases
-        .iter()
-        .copied()
-        .filter(|base| is_same(base.head.hook, hook))
-        .collect(alloc)
-}
-
-/// The starts of base chains, in their order.
-fn as_starts(alloc: Global, bases: &[CompiledChain]) -> Result<Vec<Start>, AllocError>
-    ensures { IfOk result (λ starts. starts.items ≡ map start_of bases.now) }
-{
-    bases.iter().map(|base| base.start()).collect(alloc)
-}
-
-/// The starts of a hook: by priority, and in text order where priorities are equal.
-pub(crate) fn starts_on_hook(
-    alloc: Global,
-    hook: Hook,
-    bases: &[CompiledChain],
-) -> Result<Vec<Start>, AllocError>
-    ensures { IfOk result (λ starts. Ordered hook bases.now starts.items) }
-{
-    let mut on_hook = chains_on_hook(alloc, hook, bases)?;
-    on_hook.sort_by_key(|base| base.head.priority.number())?;
-    let starts = as_starts(alloc, &on_hook)?;
-    Ok(starts)
+    bases.sort_by_key(|base| base.head.priority.number())?;
+    for base in &bases {
+        add_start(base, code)?;
+    }
+    Ok(())
 }

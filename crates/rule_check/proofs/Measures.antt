@@ -12,13 +12,15 @@ use Rattle.std.proofs.lemmas.List.Sums.{sum_by-cons, get_or-le-sum_by}
 use Rattle.nft_tree.specs.Tree.{Text, ChainTree, HeadTree, TableTree}
 use Rattle.nft_tree.specs.TableItems.{chains_of}
 use Rattle.box_file.specs.Box.{PlantTree}
+use Rattle.rule_names.specs.declared.ruleset_names.ItemNames.{ItemNames}
+use Rattle.rule_names.specs.Indexed.{names_in}
 use Rattle.rule_names.specs.Names.{chain_names}
 use Rattle.rule_paths.specs.Paths.{Caller, a_chain, AreCosts, AreAllCosts, MAX_COST, MAX_JUMPS, base_cost, table_cost, ruleset_cost}
-use Rattle.rule_paths.specs.Findings.{AreChainCosts, AreChainDepths, AreFindings, HasDepth, numbers_at}
+use Rattle.rule_paths.specs.Findings.{AreChainCosts, AreFindings, HasDepth, numbers_at}
 use Rattle.rule_paths.specs.declared.analysis.Findings.{Findings}
 use Rattle.rule_check.specs.declared.fault.CheckFault.TheVariants as faults
 use Rattle.rule_check.specs.WellFormed.{WellFormed}
-use Rattle.rule_check.specs.Checked.{AreRulesetCosts, IsChecked, base_part, base_sum, ruleset_sum, rows}
+use Rattle.rule_check.specs.Checked.{AreRulesetCosts, AreRulesetDepths, IsChecked, base_part, base_sum, ruleset_sum, rows}
 
 -- ---- from the findings
 
@@ -31,18 +33,22 @@ none_past : {A : Type 0} (xs : List A) (i : ℕ) → slice_get xs i ≡ None →
 none_past xs i at =
     elim (slice_get_cases xs i).1 [ inl h ↦ (let is = h.2 in absurd cc) | inr h ↦ h.0 ]
 
-pub is_checked : (tables : List TableTree) (plant : PlantTree) (found : Findings) → WellFormed tables plant
-    → AreFindings tables found → IsChecked tables plant found.costs.items found.depths.items
-is_checked tables plant found fine known = record {
+pub is_checked : (tables : List TableTree) (plant : PlantTree) (names : List ItemNames) (found : Findings) → WellFormed tables plant
+    → names ≡ map names_in tables → AreFindings tables found → IsChecked tables plant names found.costs.items
+is_checked tables plant names found fine named known = record {
   fine = fine;
+  named = named;
   costs = record {
     long = length-map found.costs.items (λ r. r.items) ∙ known.costs_long;
     are = λ i t at. known.costs i t (slice_get_within tables i t at) (sym (get_or_from_slice_get tables i t t at));
   };
-  depths = record {
-    long = length-map found.depths.items (λ r. r.items) ∙ known.depths_long;
-    are = λ i t at. known.depths i t (slice_get_within tables i t at) (sym (get_or_from_slice_get tables i t t at));
-  };
+  has_depths = (
+    rows found.depths.items,
+    record {
+      long = length-map found.depths.items (λ r. r.items) ∙ known.depths_long;
+      are = λ i t at. known.depths i t (slice_get_within tables i t at) (sym (get_or_from_slice_get tables i t t at));
+    },
+  );
   has_costs = known.has_costs;
 }
 
@@ -86,7 +92,7 @@ tables_le f (t ∷ ts) (ks ∷ kss) each =
     let there = sum_by-cons f t ts in
     omega (arith, here, there, each 0 t refl, tables_le f ts kss (λ i u at. each (suc i) u at))
 
-module _ (tables : List TableTree) (plant : PlantTree) (costs depths : List (Vec ℕ Global)) (k : IsChecked tables plant costs depths) where
+module _ (tables : List TableTree) (plant : PlantTree) (names : List ItemNames) (costs : List (Vec ℕ Global)) (k : IsChecked tables plant names costs) where
   abbrev cost : TableTree → Caller → ℕ
   cost = let has = k.has_costs in has.0
 
@@ -134,9 +140,6 @@ module _ (tables : List TableTree) (plant : PlantTree) (costs depths : List (Vec
 
   -- ---- depths
 
-  pub depths_of : (i : ℕ) (t : TableTree) → slice_get tables i ≡ Some t → AreChainDepths t (numbers_at depths i)
-  depths_of i t at = k.depths.are i t at
-
   not_deep : (t : TableTree) → Contains tables t → (name : Text) (depth : ℕ) → Contains (chain_names t) name
       → HasDepth t (a_chain name) depth → depth ≤ MAX_JUMPS
   not_deep t at name depth named has = by_size (cases_lt MAX_JUMPS depth)
@@ -161,20 +164,18 @@ module _ (tables : List TableTree) (plant : PlantTree) (costs depths : List (Vec
 
   -- ---- past the end, and the same in any lists
 
-  past : (vecs : List (Vec ℕ Global)) (i : ℕ) → length (rows vecs) ≡ length tables → slice_get tables i ≡ None → numbers_at vecs i ≡ []
-  past vecs i long at = get_or_past (rows vecs) i [] (omega (arith, long, none_past tables i at))
-
   pub no_costs : (i : ℕ) → slice_get tables i ≡ None → numbers_at costs i ≡ []
-  no_costs i at = past costs i k.costs.long at
+  no_costs i at = get_or_past (rows costs) i [] (omega (arith, k.costs.long, none_past tables i at))
 
   pub same_costs : (others : List (List ℕ)) → AreRulesetCosts tables others → (i : ℕ) → numbers_at costs i ≡ get_or others i []
   same_costs others are i = grind (arith, slice_get, get_or, no_costs, get_or_past, are.long, none_past, are_costs, stands, costs_of, are.are)
 
-  pub no_depths : (i : ℕ) → slice_get tables i ≡ None → numbers_at depths i ≡ []
-  no_depths i at = past depths i k.depths.long at
+  module _ (depths : List (List ℕ)) (are : AreRulesetDepths tables depths) where
+    no_depths : (i : ℕ) → slice_get tables i ≡ None → get_or depths i [] ≡ []
+    no_depths i at = get_or_past depths i [] (omega (arith, are.long, none_past tables i at))
 
-  shallow_in : (i : ℕ) (t : TableTree) → slice_get tables i ≡ Some t → (j : ℕ) → slice_index (numbers_at depths i) j ≤ MAX_JUMPS
-  shallow_in i t at j = grind (arith, cases_lt, slice_index, depths_of, length-map, get_or, Contains-get_or, not_deep, stands, get_or_past)
+    shallow_in : (i : ℕ) (t : TableTree) → slice_get tables i ≡ Some t → (j : ℕ) → slice_index (get_or depths i []) j ≤ MAX_JUMPS
+    shallow_in i t at j = grind (arith, cases_lt, slice_index, are.are i t at, length-map, get_or, Contains-get_or, not_deep, stands, get_or_past)
 
-  pub shallow : (i j : ℕ) → slice_index (numbers_at depths i) j ≤ MAX_JUMPS
-  shallow i j = grind (arith, slice_get, slice_index, no_depths, shallow_in)
+    pub shallow : (i j : ℕ) → slice_index (get_or depths i []) j ≤ MAX_JUMPS
+    shallow i j = grind (arith, slice_get, slice_index, no_depths, shallow_in)

@@ -5,6 +5,8 @@ use Rattle.std.specs.declared.alloc.Global.{Global}
 use Rattle.nft_tree.specs.Tree.{HeadTree, TableTree}
 use Rattle.nft_tree.specs.TableItems.{chains_of}
 use Rattle.box_file.specs.Box.{PlantTree}
+use Rattle.rule_names.specs.declared.ruleset_names.ItemNames.{ItemNames}
+use Rattle.rule_names.specs.Indexed.{names_in}
 use Rattle.rule_paths.specs.Paths.{Caller, AreAllCosts}
 use Rattle.rule_paths.specs.Findings.{AreChainCosts, AreChainDepths}
 use Rattle.rule_check.specs.WellFormed.{LeastFault, WellFormed}
@@ -49,10 +51,12 @@ ruleset_sum tables costs = sum_by (λ p. base_sum p.0 p.1) (zip tables costs)
 abbrev pub rows : List (Vec ℕ Global) → List (List ℕ)
 rows vecs = map (λ row. row.items) vecs
 
--- a ruleset is well formed on a box, these are its costs and depths, and its cost equations have a solution
-pub record IsChecked (tables : List TableTree) (plant : PlantTree)
-    (its_costs its_depths : List (Vec ℕ Global)) : Type 0 where
+-- a ruleset is well formed on a box, these are its names and costs, its chains have depths, and its cost
+-- equations have a solution
+pub record IsChecked (tables : List TableTree) (plant : PlantTree) (names : List ItemNames)
+    (its_costs : List (Vec ℕ Global)) : Type 0 where
   pub fine : WellFormed tables plant
+  pub named : names ≡ map names_in tables
   pub costs : AreRulesetCosts tables (rows its_costs)
-  pub depths : AreRulesetDepths tables (rows its_depths)
+  pub has_depths : (depths : List (List ℕ)) × AreRulesetDepths tables depths
   pub has_costs : (cost : TableTree → Caller → ℕ) × AreAllCosts tables cost

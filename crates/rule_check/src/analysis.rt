@@ -14,28 +14,15 @@ use crate::limits::too_large;
 use crate::terminal_statements::has_unreachable_statement;
 use box_file::Plant;
 use nft_tree::Ruleset;
-use rule_names::{
-    TableNames, jumps_to_base_chain, jumps_to_unknown_chain, names_of, refers_to_unknown_set,
-};
+use rule_names::{TableNames, jumps_to_base_chain, jumps_to_unknown_chain, refers_to_unknown_set};
 use rule_paths::Findings;
 use rule_types::has_type_mismatch;
 use rule_values::{has_contradiction, has_wrong_value, names_unknown_interface};
 use std::alloc::{AllocError, Global};
 
-/// The analysis of a well-formed ruleset's jumps, or the ruleset's fault with the lowest number.
-pub(crate) fn analyze(alloc: Global, tree: &Ruleset, plant: &Plant) -> Result<Findings, CheckError>
-    ensures fine { IfOk result (λ found. WellFormed (tables_of tree.now) plant.now) }
-    ensures found { IfOk result (λ found. AreFindings (tables_of tree.now) found) }
-    ensures refused { IfErr result (λ error. IsCheckRefusal (tables_of tree.now) plant.now error) }
-{
-    let Some(names) = names_of(alloc, tree)? else {
-        return Err(CheckError::Refused(CheckFault::DuplicateName));
-    };
-    analyze_named(alloc, &names, tree, plant)
-}
-
-/// N02 to N15: the same of a ruleset without duplicate names.
-fn analyze_named(
+/// The analysis of a well-formed ruleset's jumps, or the fault with the lowest number of a ruleset
+/// without duplicate names: N02 to N15.
+pub(crate) fn analyze(
     alloc: Global,
     names: &[TableNames],
     tree: &Ruleset,

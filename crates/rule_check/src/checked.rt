@@ -4,26 +4,26 @@ ghost use Rattle.nft_tree.specs.Tree.{ChainTree, HeadTree, TableTree};
 ghost use Rattle.nft_tree.specs.TreeViews.{tables_of};
 ghost use Rattle.nft_tree.specs.TableItems.{chains_of};
 ghost use Rattle.rule_paths.specs.Paths.{MAX_COST, MAX_JUMPS};
-ghost use Rattle.rule_paths.specs.Findings.{AreChainCosts, AreChainDepths, numbers_at};
+ghost use Rattle.rule_paths.specs.Findings.{AreChainCosts, numbers_at};
 ghost use Rattle.rule_check.specs.Checked.{AreRulesetCosts, AreRulesetDepths, CheckedTree, IsCheckRefusal, ruleset_sum};
 ghost use Rattle.rule_check.specs.WellFormed.{WellFormed};
 
 use crate::analysis::analyze;
-use crate::fault::CheckError;
+use crate::fault::{CheckError, CheckFault};
 use box_file::Plant;
 use nft_tree::Ruleset;
-use std::alloc::Global;
+use rule_names::{RulesetNames, TableNames};
+use std::alloc::{AllocError, Global};
 use std::marker::Model;
 
 /// A ruleset that passed all checks, with the box that it was checked for. `check` is the only way
-/// to make one. It keeps the costs and depths of its chains.
+/// to make one. It keeps its names and the costs of its chains.
 pub struct Checked {
     tree: Ruleset,
     plant: Plant,
+    names: RulesetNames,
     /// By table and chain.
     costs: Vec<Vec<u64>>,
-    /// By table and chain.
-    depths: Vec<Vec<u64>>,
 }
 
 // Written out, so that dropping one is a call.
@@ -32,8 +32,8 @@ impl Drop for Checked {
         let Checked {
             tree: _,
             plant: _,
+            names: _,
             costs: _,
-            depths: _,
         } = self;
     }
 }
@@ -46,7 +46,7 @@ impl Model for Checked {
 
     ghost view = { λ c. record { rules = tables_of c.tree; plant = c.plant } };
 
-    ghost invariant = { λ c. IsChecked (tables_of c.tree) c.plant c.costs.items c.depths.items };
+    ghost invariant = { λ c. IsChecked (tables_of c.tree) c.plant c.names c.costs.items };
 }
 
 /// Checks a ruleset for a box (nft(8), and the limits of this profile). The arguments are dropped
@@ -62,12 +62,15 @@ pub fn check(alloc: Global, tree: Ruleset, plant: Plant) -> Result<Checked, Chec
     ensures fine { IfOk result (λ checked. WellFormed (tables_of tree) plant) }
     ensures refused { IfErr result (λ error. IsCheckRefusal (tables_of tree) plant error) }
 {
-    let found = analyze(alloc, &tree, &plant)?;
+    let Some(names) = RulesetNames::of(alloc, &tree)? else {
+        return Err(CheckError::Refused(CheckFault::DuplicateName));
+    };
+    let found = analyze(alloc, &names.tables(alloc, &tree)?, &tree, &plant)?;
     Ok(Checked {
         tree,
         plant,
+        names,
         costs: found.costs,
-        depths: found.depths,
     })
 }
 
@@ -85,6 +88,17 @@ impl Checked {
         &self.plant
     }
 
+    /// The tables, with lookup of their chains, sets and maps by name.
+    ///
+    /// # Errors
+    ///
+    /// If an allocation fails.
+    pub fn names<'t>(&'t self, alloc: Global) -> Result<Vec<TableNames<'t>>, AllocError>
+        ensures { IfOk result (λ names. names.items ≡ self.now.rules) }
+    {
+        self.names.tables(alloc, &self.tree)
+    }
+
     /// The costs of a table's chains, in text order: for each statement 1 and the greatest cost
     /// among its targets, saturated at 2^64 - 1. A base chain costs less than 65,536. Empty if
     /// there is no such table.
@@ -100,17 +114,6 @@ impl Checked {
         ensures none { slice_get self.now.rules table ≡ None → result.now ≡ [] }
     {
         row(&self.costs, table)
-    }
-
-    /// The most jumps on a path from each chain of a table, in text order: at most 16. Empty if
-    /// there is no such table.
-    pub fn depths(&self, table: usize) -> &[u64]
-        ensures depths { (t : TableTree) → slice_get self.now.rules table ≡ Some t
-            → AreChainDepths t result.now }
-        ensures shallow { (j : ℕ) → slice_index result.now j ≤ MAX_JUMPS }
-        ensures none { slice_get self.now.rules table ≡ None → result.now ≡ [] }
-    {
-        row(&self.depths, table)
     }
 
     /// A lemma, which does nothing: a checked ruleset is well formed, its cost equations have a

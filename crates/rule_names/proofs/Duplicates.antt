@@ -1,8 +1,9 @@
 -- Duplicate names in lists.
-use Rattle.rule_names.proofs.Names.{Bool, Bor, Contains, HasDuplicate, IsAdded, List, Text, [], any_of_map, ap, arith, bytes_eq, false, get_or, inr, length}
+use Rattle.rule_names.proofs.Names.{Bool, Contains, HasDuplicate, IsAdded, List, Text, [], any_of_map, ap, arith, bytes_eq, false, get_or, inr, length}
 use Rattle.rule_names.proofs.Names.{list_any, map-append, refl, subst, sym, true, ℕ, ⊎_elim, ◌++◌, ◌<◌, ◌∙◌, ◌∷◌, ◌≡◌}
 use Rattle.std.proofs.Common.{inl, not, suc, zero, ◌⊎◌}
-use Rattle.std.specs.Prelude.{if◌then◌else◌}
+use Rattle.std.specs.Prelude.{Vec, if◌then◌else◌}
+use Rattle.std.specs.declared.alloc.Global.{Global}
 use Rattle.std.specs.Cmp.Lexicographic.{same_text}
 use Rattle.std.proofs.lemmas.Bool.{cases_lt}
 use Rattle.std.proofs.lemmas.List.{get_or_append_left, get_or_default, get_or_push, length-append, length_push}
@@ -89,18 +90,18 @@ pub repeats-on : (names more : List Text) → HasDuplicate names → HasDuplicat
 repeats-on names more r = grind (arith, length-append, r.apart, r.within, r.first, r.second, get_or_append_left, r.same)
 
 -- one more key
-pub key-added : (keys new : List (Bor Text)) (key : Bor Text) (stands fresh : Bool) → list_any (named key.now) keys
+pub key-added : (keys new : List (Vec ℕ Global)) (key : Vec ℕ Global) (stands fresh : Bool) → list_any (named key.items) keys
     ≡ stands → fresh ≡ not stands → new ≡ (if stands then keys else keys ++ key ∷ [])
-    → (HasDuplicate (texts keys) → ⊥) → IsAdded (texts keys) key.now (texts new) fresh × (HasDuplicate (texts new) → ⊥)
+    → (HasDuplicate (texts keys) → ⊥) → IsAdded (texts keys) key.items (texts new) fresh × (HasDuplicate (texts new) → ⊥)
 key-added keys new key true fresh t f is apart = (
-  subst (IsAdded (texts keys) key.now (texts new)) (sym f)
-      (among-front (texts keys) key.now [] (any-named (texts keys) key.now
-      (sym (any_of_map (bytes_eq key.now) (λ k. k.now) keys) ∙ t))),
+  subst (IsAdded (texts keys) key.items (texts new)) (sym f)
+      (among-front (texts keys) key.items [] (any-named (texts keys) key.items
+      (sym (any_of_map (bytes_eq key.items) (λ k. k.items) keys) ∙ t))),
   subst (λ ks. HasDuplicate (texts ks) → ⊥) (sym is) apart,
 )
 key-added keys new key false fresh t f is apart =
-    let more : texts new ≡ texts keys ++ key.now ∷ [] = ap texts is ∙ map-append (λ k. k.now) keys (key ∷ []) in
+    let more : texts new ≡ texts keys ++ key.items ∷ [] = ap texts is ∙ map-append (λ k. k.items) keys (key ∷ []) in
     let still : HasDuplicate (texts new) → ⊥ =
     subst (λ ns. HasDuplicate ns → ⊥) (sym more)
-    (apart-more (texts keys) key.now apart (sym (any_of_map (bytes_eq key.now) (λ k. k.now) keys) ∙ t)) in
-    (subst (IsAdded (texts keys) key.now (texts new)) (sym f) (more, still), still)
+    (apart-more (texts keys) key.items apart (sym (any_of_map (bytes_eq key.items) (λ k. k.items) keys) ∙ t)) in
+    (subst (IsAdded (texts keys) key.items (texts new)) (sym f) (more, still), still)

@@ -3,7 +3,8 @@ use Rattle.rule_names.proofs.Names.{Bool, Bor, List, MatchOption, None, Option, 
 use Rattle.rule_names.proofs.Names.{list_any, map}
 use Rattle.rule_names.proofs.Names.{option_map, refl, sym, true, ℕ, ◌+◌, ◌<◌, ◌∙◌, ◌∷◌, ◌≡◌}
 use Rattle.std.proofs.Common.{suc, ◌≤◌}
-use Rattle.std.specs.Prelude.{IfSome, find, is_some, nat_eq, position, slice_get}
+use Rattle.std.specs.Prelude.{IfSome, Vec, find, is_some, nat_eq, position, slice_get}
+use Rattle.std.specs.declared.alloc.Global.{Global}
 use Rattle.std.specs.List.{position_from}
 use Rattle.std.specs.Option.{option_copied}
 use Rattle.std.specs.Cmp.Lexicographic.{pointwise}
@@ -14,8 +15,8 @@ use Rattle.rule_names.specs.Names.{index_in}
 use Rattle.rule_names.specs.steps.Index.{at_index, texts}
 
 -- the key has this name
-abbrev pub named : Text → Bor Text → Bool
-named name k = pointwise nat_eq name k.now
+abbrev pub named : Text → Vec ℕ Global → Bool
+named name k = pointwise nat_eq name k.items
 
 index-from : (b : Bool) (i : ℕ) (o : Option ℕ) → cond b (Some i) (option_map (λ k. k + (i + 1)) o)
     ≡ option_map (λ k. k + i) (cond b (Some 0) (option_map suc o))
@@ -23,16 +24,16 @@ index-from true i o = ap Some (omega arith)
 index-from false i None = refl
 index-from false i (Some k) = ap Some (omega arith)
 
-from-index : (name : Text) (keys : List (Bor Text)) (i : ℕ) → position_from (named name) i keys ≡ option_map (λ k. k + i) (index_in name (texts keys))
+from-index : (name : Text) (keys : List (Vec ℕ Global)) (i : ℕ) → position_from (named name) i keys ≡ option_map (λ k. k + i) (index_in name (texts keys))
 from-index name [] i = refl
-from-index name (k ∷ ks) i = grind (arith, index-from, nat_list_eq_equiv.symm, k.now, from-index name ks (i + 1))
+from-index name (k ∷ ks) i = grind (arith, index-from, nat_list_eq_equiv.symm, k.items, from-index name ks (i + 1))
 
 plus-none : (o : Option ℕ) → option_map (λ k. k + 0) o ≡ o
 plus-none None = refl
 plus-none (Some k) = ap Some (omega arith)
 
 -- where a key is among the keys
-pub position-index : (name : Text) (keys : List (Bor Text)) → position (named name) keys ≡ index_in name (texts keys)
+pub position-index : (name : Text) (keys : List (Vec ℕ Global)) → position (named name) keys ≡ index_in name (texts keys)
 position-index name keys = position_from-zero (named name) keys ∙ from-index name keys 0 ∙ plus-none (index_in name (texts keys))
 
 pub at-index-more : {X : Type 0} (b : Bool) (x : X) (xs : List X) (o : Option ℕ) → cond b (Some x) (at_index xs o)

@@ -1,5 +1,5 @@
 -- A duplicate set or a duplicate map is a duplicate among sets and maps.
-use Rattle.rule_names.proofs.Names.{Contains, HasDuplicate, List, Text, [], map, subst, ⊎_elim, ◌∷◌}
+use Rattle.rule_names.proofs.Names.{Bool, Contains, HasDuplicate, List, Text, [], arith, list_any, map, refl, subst, ⊎_elim, ◌||◌, ◌∷◌, ◌≡◌}
 use Rattle.std.specs.List.{filter_map}
 use Rattle.nft_tree.specs.Tree.{ItemTree}
 use Rattle.nft_tree.specs.TableItems.{map_in, set_in}
@@ -18,6 +18,14 @@ of_maps items = map (λ m. m.name) (filter_map map_in items)
 
 abbrev pub of_both : List ItemTree → List Text
 of_both items = filter_map set_or_map_name items
+
+-- a test of the names of both kinds
+pub any-both : (test : Text → Bool) (items : List ItemTree) → list_any test (of_both items) ≡ list_any test (of_sets items) || list_any test (of_maps items)
+any-both test [] = refl
+any-both test (tree.comment text ∷ rest) = any-both test rest
+any-both test (tree.chain c ∷ rest) = any-both test rest
+any-both test (tree.set s ∷ rest) = grind (arith, any-both test rest)
+any-both test (tree.map_item m ∷ rest) = grind (arith, any-both test rest)
 
 pub among-same : (n : Text) (small large : List Text) (name : Text)
     → (Contains small name → Contains large name) → Contains (n ∷ small) name → Contains (n ∷ large) name

@@ -1,14 +1,16 @@
 -- Duplicate names in a ruleset.
 use Rattle.rule_names.proofs.Names.{All, Bool, HasDuplicate, HasUniqueNames, List, TableTree, [], ap, cond, false, get_or, length, map, map-append, map-more}
 use Rattle.rule_names.proofs.Names.{refl, subst, sym, table_names, table_tree, take, true, ℕ, ◌++◌, ◌+◌, ◌<◌, ◌∙◌, ◌∷◌, ◌≡◌}
-use Rattle.std.proofs.Common.{drop}
+use Rattle.std.proofs.Common.{arith, drop, inl, inr}
 use denote.Enum.Bare.{sameb}
 use Rattle.std.specs.Prelude.{IsTrue}
 use Rattle.std.proofs.lemmas.List.Elements.{All-contains, filter-append}
-use Rattle.std.proofs.lemmas.List.{append-nil}
+use Rattle.std.proofs.lemmas.List.{append-nil, get_or-map, length-map}
 use Rattle.nft_tree.specs.contracts.ruleset.Family.{the_type}
 use Rattle.nft_tree.specs.declared.ruleset.Family.{Family}
 use Rattle.nft_tree.specs.declared.ruleset.Table.{Table}
+use Rattle.rule_names.specs.declared.ruleset_names.ItemNames.{ItemNames}
+use Rattle.rule_names.specs.Indexed.{names_in}
 use Rattle.rule_names.specs.Names.{DuplicateName, same_family, two_chains, two_sets_or_maps, two_tables}
 use Rattle.rule_names.proofs.Lists.{map-around}
 use Rattle.rule_names.proofs.Duplicates.{repeats-on}
@@ -57,5 +59,13 @@ pub none-duplicate : (tables : List TableTree) → (HasDuplicate (table_names fa
     → (HasDuplicate (table_names families.Inet tables) → ⊥) → All HasUniqueNames tables → DuplicateName tables → ⊥
 none-duplicate tables ip inet all (two_tables families.Ip r) = ip r
 none-duplicate tables ip inet all (two_tables families.Inet r) = inet r
-none-duplicate tables ip inet all (two_chains t h r) = (All-contains HasUniqueNames tables t all h).chains_apart r
-none-duplicate tables ip inet all (two_sets_or_maps t h r) = (All-contains HasUniqueNames tables t all h).sets_and_maps_apart r
+none-duplicate tables ip inet all (two_chains t h r) = All-contains HasUniqueNames tables t all h (inl r)
+none-duplicate tables ip inet all (two_sets_or_maps t h r) = All-contains HasUniqueNames tables t all h (inr r)
+
+-- the names of a table at its place
+pub names-at : (tables : List Table) (i : ℕ) (x : Table) (names : ItemNames) → i < length tables → x ≡ get_or tables i x
+    → names ≡ get_or (map names_in (map table_tree tables)) i names → names ≡ names_in (table_tree x)
+names-at tables i x names inside is at =
+    let same = length-map tables table_tree in
+    at ∙ get_or-map names_in (map table_tree tables) i (table_tree x) names (omega arith)
+    ∙ ap names_in (get_or-map table_tree tables i x (table_tree x) inside ∙ ap table_tree (sym is))

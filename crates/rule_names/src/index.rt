@@ -3,25 +3,25 @@ ghost use Rattle.std.specs.Prelude.{◌≡◌, [], IfOk};
 ghost use Rattle.std.specs.List.{list_any};
 ghost use Rattle.std.specs.Str.{bytes_eq};
 ghost use Rattle.rule_names.specs.Names.{index_in};
-ghost use Rattle.rule_names.specs.steps.Index.{IsAdded};
+ghost use Rattle.rule_names.specs.steps.Index.{IsAdded, IsAddedApart};
 
 use indexmap::IndexSet;
 use std::alloc::{AllocError, Global};
 use std::marker::Model;
 
-/// Distinct names, each with its index in order of insertion.
-pub(crate) struct NameIndex<'t> {
-    names: IndexSet<&'t [u8]>,
+/// Distinct names, each with its index in order of insertion. It owns their text.
+pub(crate) struct NameIndex {
+    names: IndexSet<Vec<u8>>,
 }
 
 // Written out, so that dropping one is a call.
-impl Drop for NameIndex<'_> {
+impl Drop for NameIndex {
     fn drop(self) {
         let NameIndex { names: _ } = self;
     }
 }
 
-impl<'t> Model for NameIndex<'t> {
+impl Model for NameIndex {
     ghost use Rattle.std.specs.Prelude.{List};
     ghost use Rattle.nft_tree.specs.Tree.{Text};
     ghost use Rattle.rule_names.specs.Names.{HasDuplicate};
@@ -34,8 +34,8 @@ impl<'t> Model for NameIndex<'t> {
     ghost invariant = { λ i. HasDuplicate (texts i.names.keys) → ⊥ };
 }
 
-impl<'t> NameIndex<'t> {
-    pub(crate) fn new(alloc: Global) -> NameIndex<'t>
+impl NameIndex {
+    pub(crate) fn new(alloc: Global) -> NameIndex
         ensures { result ≡ [] }
     {
         NameIndex {
@@ -44,10 +44,26 @@ impl<'t> NameIndex<'t> {
     }
 
     /// Adds the name at the end; false if it is there already.
-    pub(crate) fn add(&mut self, name: &'t [u8]) -> Result<bool, AllocError>
+    pub(crate) fn add(&mut self, alloc: Global, name: &[u8]) -> Result<bool, AllocError>
         ensures { IfOk result (IsAdded self.old name.now self.new) }
     {
-        Ok(self.names.insert(name)?)
+        let owned = Vec::from_slice(alloc, name)?;
+        Ok(self.names.insert(owned)?)
+    }
+
+    /// The same; false also if it is among the others, with which these share a namespace.
+    pub(crate) fn add_apart(
+        &mut self,
+        alloc: Global,
+        name: &[u8],
+        others: &NameIndex,
+    ) -> Result<bool, AllocError>
+        ensures { IfOk result (IsAddedApart self.old name.now others.now self.new) }
+    {
+        if others.contains(name) {
+            return Ok(false);
+        }
+        self.add(alloc, name)
     }
 
     /// The index of the name, from 0.

@@ -32,6 +32,10 @@ start_of b = record {
 abbrev pub runs_on_hook : Hook → CompiledChain → Bool
 runs_on_hook hook b = is_on_hook hook (base b)
 
+-- the starts of those on a hook
+abbrev pub hook_starts : Hook → List CompiledChain → List Start
+hook_starts hook bases = map start_of (filter (runs_on_hook hook) bases)
+
 -- it with its cost
 abbrev pub costed : CompiledChain → BaseChain × ℕ
 costed b = (base b, b.cost)
@@ -48,16 +52,16 @@ PricesTable price table costs = (j : ℕ) → j < length costs → slice_index c
 abbrev pub Prices : List TableTree → (ChainNo → ℕ) → Type 0
 Prices tables price = (i : ℕ) (t : TableTree) (costs : List ℕ) → slice_get tables i ≡ Some t → AreChainCosts t costs → PricesTable price i costs
 
--- the starts are the base chains of the hook, in order of priority and then of the text
-pub record Ordered (hook : Hook) (bases : List CompiledChain) (starts : List Start) : Type 0 where
+-- the starts of each hook are its base chains, in order of priority and then of the text
+pub record AreOrdered (bases : List CompiledChain) (code : Code) : Type 0 where
   pub order : List CompiledChain
-  pub moved : IsPermutation (filter (runs_on_hook hook) bases) order
-  pub in_order : InOrder (map base (filter (runs_on_hook hook) bases)) (map base order)
-  pub starts_are : starts ≡ map start_of order
+  pub moved : IsPermutation bases order
+  pub in_order : InOrder (map base bases) (map base order)
+  pub starts : (hook : Hook) → starts_of code hook ≡ hook_starts hook order
 
 -- the code of each table, and the starts of each hook
 pub record IsRulesetCode (checked : CheckedTree) (code : Code) : Type 0 where
   pub tables : AreTableCodes checked.plant checked.rules code.tables.items
   pub bases : List CompiledChain
   pub are : (price : ChainNo → ℕ) → Prices checked.rules price → map costed bases ≡ map (priced price) (base_chains_of checked.rules)
-  pub ordered : (hook : Hook) → Ordered hook bases (starts_of code hook)
+  pub ordered : AreOrdered bases code

@@ -1,11 +1,21 @@
-use Rattle.compiler.proofs.Names.{Global, List, MatchOption-at_none, TableTree, Vec, subst, tables_of, ◌≡◌}
-use Rattle.rule_names.specs.Names.{DuplicateName}
+use Rattle.compiler.proofs.Names.{false_from_ne_true, rules}
 use Rattle.rule_check.specs.declared.fault.CheckFault.TheVariants as faults
 use Rattle.compiler.proofs.compiling.ruleset_code.Goals as goal
 
-pub unreachable-requires : goal.unreachable-requires
-unreachable-requires c =
-    let tables : List TableTree = tables_of c.tree.result.now in
-    let twice = MatchOption-at_none (DuplicateName tables)
-    (λ (names : Vec TableTree Global). names.items ≡ tables) c.in_default.is c.in_ok-names.ensures.names in
-    c.requires faults.DuplicateName (subst DuplicateName c.tree.ensures twice)
+pub add_base_chains-requires-clause-bounds : goal.add_base_chains-requires-clause-bounds
+add_base_chains-requires-clause-bounds c = rw (c.deref-2.ensures.value, c.in_ok-names.ensures) (false_from_ne_true _ (c.requires faults.WrongValue))
+
+pub add_tables-requires-clause-types : goal.add_tables-requires-clause-types
+add_tables-requires-clause-types c = rw (c.deref.ensures.value, c.in_ok-names.ensures) (false_from_ne_true _ (c.requires faults.TypeMismatch))
+
+pub add_tables-requires-clause-bounds : goal.add_tables-requires-clause-bounds
+add_tables-requires-clause-bounds c = rw (c.deref.ensures.value, c.in_ok-names.ensures, c.plant.ensures)
+    (false_from_ne_true _ (c.requires faults.WrongValue))
+
+pub returns : goal.returns
+returns c = record {
+  tables = search rules;
+  bases = c.add_base_chains.new.bases.items;
+  are = c.in_ok-add_base_chains.ensures;
+  ordered = c.in_ok-add_starts.ensures.starts;
+}

@@ -8,6 +8,6 @@ use Rattle.rule_names.proofs.table.TableNames.has_chain.Goals as goal
 pub returns : goal.returns
 returns c =
     c.contains.ensures
-    ∙ ap (list_any (bytes_eq c.args.name.now)) c.self.invariant.chains.named
+    ∙ ap (λ n. list_any (bytes_eq c.args.name.now) n.chains) c.self.invariant.named
     ∙ any-found (λ x. x.name) c.args.name.now (chains_of (table_tree c.self.inside.table.now))
     ∙ ap (λ t. is_some (chain_named t c.args.name.now)) c.self.view_is
