@@ -1,7 +1,6 @@
 -- A stage costs what its base chains cost. All together cost at most as much as the code: each start is in one
 -- stage at most.
-use Rattle.std.proofs.Common.{◌≡◌, ℕ, ◌+◌, ◌≤◌, not, List, [], ◌∷◌, filter, sum_by, refl, sym, ap, ap₂, ◌∙◌, arith, ℤ, negsuc}
-use Rattle.std.proofs.lemmas.List.Filters.{sum_by-filter_both}
+use Rattle.std.proofs.Common.{◌≡◌, ℕ, ◌+◌, ◌≤◌, Bool, true, false, cond, List, [], ◌∷◌, filter, sum_by, refl, sym, ap, ap₂, ◌∙◌, arith}
 use Rattle.std.proofs.lemmas.List.Sums.{sum_by-cons}
 use Rattle.nft_tree.specs.Tree.{TableTree}
 use Rattle.rule_paths.specs.Paths.{AreAllCosts, Caller}
@@ -13,22 +12,57 @@ use Rattle.rule_meaning.specs.Hooks.{BaseChain, base_chains_of}
 use Rattle.rule_meaning.specs.declared.stage.HookStage.{HookStage}
 use Rattle.rule_meaning.specs.declared.stage.HookStage.TheVariants as stages
 use Rattle.hook_runs.specs.declared.stages.StagedChains.{StagedChains}
-use Rattle.nft_tree.specs.Priorities.{DSTNAT, SRCNAT}
+use Rattle.nft_tree.specs.declared.chain.Hook.TheVariants as hooks
 use Rattle.rule_meaning.specs.Hooks.{chains_in_stage}
 use Rattle.hook_runs.specs.Stages.{stage_cost, total_stage_cost}
 use Rattle.hook_runs.specs.StageCode.{AreStarts, AreStartsOf}
-use Rattle.hook_runs.specs.steps.Starts.{AreStagedChains, cost_of, after_conntrack, costed_tree, staged_starts}
-use Rattle.hook_runs.specs.steps.Starts.{after, before, filter_starts, is_filter, is_nat_start, starts_before, nat_starts}
+use Rattle.hook_runs.specs.steps.Starts.{AreStagedChains, cost_of, costed_tree, hook_of, runs_in, staged_starts}
 use Rattle.hook_runs.proofs.Orders.{sum_in_order}
 
 abbrev cost : Start → ℕ
 cost s = s.cost
 
-both_sides : (limit : ℤ) (ss : List Start) → cost_of (before limit ss) + cost_of (after limit ss) ≡ cost_of ss
-both_sides limit = sum_by-filter_both (starts_before limit) (λ s. not (starts_before limit s)) (λ s. refl) cost
+-- what those of a list that run in a stage cost
+abbrev in_stage : HookStage → List Start → ℕ
+in_stage stage ss = cost_of (filter (runs_in (hook_of stage) stage) ss)
 
-both_types : (ss : List Start) → cost_of (nat_starts ss) + cost_of (filter_starts ss) ≡ cost_of ss
-both_types = sum_by-filter_both is_nat_start is_filter (λ s. refl) cost
+one_more : (t : Bool) (s : Start) (kept : List Start) → cost_of (cond t (s ∷ kept) kept) ≡ cond t (cost s) 0 + cost_of kept
+one_more true s kept = sum_by-cons cost s kept
+one_more false s kept = omega arith
+
+in_stage_more : (stage : HookStage) (s : Start) (ss : List Start)
+    → in_stage stage (s ∷ ss) ≡ cond (runs_in (hook_of stage) stage s) (cost s) 0 + in_stage stage ss
+in_stage_more stage s ss = one_more (runs_in (hook_of stage) stage s) s (filter (runs_in (hook_of stage) stage) ss)
+
+-- each start of a hook is in one of its stages, if in any
+on_prerouting : (ss : List Start) → in_stage stages.PreroutingRaw ss + in_stage stages.PreroutingBeforeNat ss
+    + in_stage stages.PreroutingNat ss + in_stage stages.PreroutingAfterNat ss ≡ cost_of ss
+on_prerouting [] = refl
+on_prerouting (s ∷ ss) = grind (
+  arith,
+  sum_by-cons cost s ss,
+  on_prerouting ss,
+  in_stage_more stages.PreroutingRaw s ss,
+  in_stage_more stages.PreroutingBeforeNat s ss,
+  in_stage_more stages.PreroutingNat s ss,
+  in_stage_more stages.PreroutingAfterNat s ss,
+)
+
+on_postrouting : (ss : List Start) → in_stage stages.PostroutingBeforeNat ss + in_stage stages.PostroutingNat ss
+    + in_stage stages.PostroutingAfterNat ss ≡ cost_of ss
+on_postrouting [] = refl
+on_postrouting (s ∷ ss) = grind (
+  arith,
+  sum_by-cons cost s ss,
+  on_postrouting ss,
+  in_stage_more stages.PostroutingBeforeNat s ss,
+  in_stage_more stages.PostroutingNat s ss,
+  in_stage_more stages.PostroutingAfterNat s ss,
+)
+
+some_of : (test : Start → Bool) (ss : List Start) → cost_of (filter test ss) ≤ cost_of ss
+some_of test [] = omega arith
+some_of test (s ∷ ss) = grind (arith, one_more (test s) s (filter test ss), sum_by-cons cost s ss, some_of test ss)
 
 pub costs_little : (checked : CheckedTree) (code : Code) (p : StagedChains) → AreStagedChains code p
     → total_stage_cost (costed_tree checked code p) ≤ total_cost code
@@ -43,13 +77,10 @@ costs_little checked code p are = omega (
   ap cost_of (are stages.PostroutingBeforeNat),
   ap cost_of (are stages.PostroutingNat),
   ap cost_of (are stages.PostroutingAfterNat),
-  both_sides (negsuc 198) (filter_starts code.prerouting.items),
-  both_sides DSTNAT (after_conntrack code),
-  both_sides SRCNAT (filter_starts code.postrouting.items),
-  both_types code.prerouting.items,
-  both_types code.input.items,
-  both_types code.forward.items,
-  both_types code.postrouting.items,
+  on_prerouting code.prerouting.items,
+  some_of (runs_in hooks.Input stages.Input) code.input.items,
+  some_of (runs_in hooks.Forward stages.Forward) code.forward.items,
+  on_postrouting code.postrouting.items,
 )
 
 -- ---- one stage

@@ -5,53 +5,25 @@ use Rattle.std.specs.Prelude.{Contains}
 use Rattle.std.specs.List.Sorted.{ties}
 use Rattle.std.proofs.lemmas.Bool.{false≢true}
 use Rattle.std.proofs.lemmas.List.Sorted.{Contains-permutation, IsPermutation-filter_both}
-use Rattle.std.proofs.lemmas.List.Kept.{IsSortedBy-filter}
 use Rattle.std.proofs.lemmas.List.Filters.{length-filter_both, sum_by-filter_both}
-use Rattle.std.proofs.lemmas.List.Elements.{All-contains, All-contains_itself, All-filter, Contains-append_cases, filter_agree, filter_passes}
+use Rattle.std.proofs.lemmas.List.Elements.{All-contains, All-contains_itself, All-filter, Contains-append_cases, filter_passes}
 use Rattle.rule_meaning.proofs.Priorities.{priorities}
-use Rattle.list_laws.specs.Tests.{and-flip}
+use Rattle.compiler.proofs.OrderLaws.{some_in_order}
 use Rattle.rule_meaning.specs.Hooks.{BaseChain, InOrder, runs_before}
 
--- ---- filters
-
-module _ {X : Type 0} where
-  twice_by : (p q : X → Bool) (x : X) (b : Bool) (ps both : List X) → filter q ps ≡ both
-      → filter q (cond b (x ∷ ps) ps) ≡ cond (b && q x) (x ∷ both) both
-  twice_by p q x true ps both e = ap (λ l. cond (q x) (x ∷ l) l) e
-  twice_by p q x false ps both e = e
-
-  -- a filter of a filter is a filter by both tests
-  pub filter_twice : (p q : X → Bool) (xs : List X) → filter q (filter p xs) ≡ filter (λ x. p x && q x) xs
-  filter_twice p q [] = refl
-  filter_twice p q (x ∷ xs) = twice_by p q x (p x) (filter p xs) (filter (λ y. p y && q y) xs) (filter_twice p q xs)
-
-  filter_swap : (p q : X → Bool) (xs : List X) → filter q (filter p xs) ≡ filter p (filter q xs)
-  filter_swap p q xs = filter_twice p q xs ∙ filter_agree (λ x. p x && q x) (λ x. q x && p x)
-      (λ x. and-flip (p x) (q x)) xs ∙ sym (filter_twice q p xs)
-
-  -- an element that passes is kept
-  Contains-filter : (p : X → Bool) (xs : List X) (x : X) → Contains xs x → p x ≡ true → Contains (filter p xs) x
-  Contains-filter p xs x h passes =
-      let q : X → Bool = λ y. not (p y) in
-      elim (Contains-append_cases (filter p xs) (filter q xs) x
-      (Contains-permutation xs (filter p xs ++ filter q xs) x (IsPermutation-filter_both p q (λ y. refl) xs)
-      h)) [
-        | inl kept ↦ kept
-        | inr left ↦ absurd (false≢true (ap not (sym passes)
-            ∙ All-contains (λ y. q y ≡ true) (filter q xs) x (filter_passes q xs) left))
-      ]
+-- an element that passes is kept
+Contains-filter : {X : Type 0} (p : X → Bool) (xs : List X) (x : X) → Contains xs x → p x ≡ true → Contains (filter p xs) x
+Contains-filter {X = X} p xs x h passes =
+    let q : X → Bool = λ y. not (p y) in
+    elim (Contains-append_cases (filter p xs) (filter q xs) x
+    (Contains-permutation xs (filter p xs ++ filter q xs) x (IsPermutation-filter_both p q (λ y. refl) xs)
+    h)) [
+      | inl kept ↦ kept
+      | inr left ↦ absurd (false≢true (ap not (sym passes)
+          ∙ All-contains (λ y. q y ≡ true) (filter q xs) x (filter_passes q xs) left))
+    ]
 
 -- ---- order
-
--- some base chains of a text, in the order that all of them have
-pub some_in_order : (test : BaseChain → Bool) (text order : List BaseChain) → InOrder text order
-    → InOrder (filter test text) (filter test order)
-some_in_order test text order o =
-    record {
-      rising = IsSortedBy-filter runs_before priorities test order o.rising;
-      stable = λ x. filter_swap test (ties runs_before x) order ∙ ap (filter test) (o.stable x)
-          ∙ filter_swap (ties runs_before x) test text;
-    }
 
 neither : (b : Bool) → (b ≡ true → b ≡ false) → b ≡ false
 neither true h = h refl

@@ -1,18 +1,17 @@
 -- The starts of each stage are those of its base chains, and have their results.
 use Rattle.std.proofs.Common.{arith}
-use Rattle.std.proofs.Common.{◌≡◌, ℕ, Bool, true, false, not, ◌&&◌, cond, List, [], ◌∷◌, map, filter, refl, sym, ap, ◌∙◌, subst, ℤ, int_lt, negsuc}
+use Rattle.std.proofs.Common.{◌≡◌, ℕ, Bool, true, false, ◌&&◌, cond, List, [], ◌∷◌, map, filter, refl, sym, ap, subst}
 use Rattle.std.specs.Prelude.{All, Contains}
 use Rattle.std.proofs.lemmas.Bool.{false≢true}
 use Rattle.std.proofs.lemmas.List.Elements.{All-head, All-tail, All-contains, All-contains_itself, All-filter, All-weaker}
 use Rattle.nft_tree.specs.declared.chain.Hook.{Hook}
-use Rattle.nft_tree.specs.declared.chain.Hook.TheVariants as hooks
 use Rattle.rule_check.specs.Checked.{CheckedTree}
 use Rattle.rule_meaning.specs.declared.facts.Facts.{Facts}
 use Rattle.rule_meaning.specs.declared.event.Event.{Event}
 use Rattle.rule_meaning.specs.declared.event.HookVerdict.{HookVerdict}
 use Rattle.rule_meaning.specs.declared.event.HookVerdict.TheVariants.{Accepted, Dropped, Translated}
 use Rattle.rule_meaning.specs.Hooks as meaning
-use Rattle.rule_meaning.specs.Hooks.{BaseChain, base_chains_of, is_on_hook, filter_chains_on, nat_chains_on, is_below, InOrder}
+use Rattle.rule_meaning.specs.Hooks.{BaseChain, base_chains_of, is_on_hook, InOrder}
 use Rattle.rule_meaning.specs.Hooks.{HookResult, Traversal, RunsBaseChain, Continues, Stops, Then, InTurn, Chains}
 use Rattle.filter_vm.specs.declared.code.Code.{Code}
 use Rattle.filter_vm.specs.declared.code.Start.{Start}
@@ -23,13 +22,11 @@ use Rattle.compiler.specs.Compiled.{StartHead, HasStarts, AgreesWithRules, start
 use Rattle.rule_meaning.specs.declared.stage.HookStage.{HookStage}
 use Rattle.rule_meaning.specs.declared.stage.HookStage.TheVariants as stages
 use Rattle.hook_runs.specs.declared.stages.StagedChains.{StagedChains}
-use Rattle.nft_tree.specs.Priorities.{DSTNAT, SRCNAT}
-use Rattle.rule_meaning.specs.Hooks.{chains_in_stage, is_after_conntrack}
+use Rattle.rule_meaning.specs.Hooks.{chains_in_stage}
 use Rattle.hook_runs.specs.StageCode.{AreStartsOf, AreStarts, IsStartOf, continues}
-use Rattle.hook_runs.specs.steps.Starts.{AreStagedChains, in_order_result, then_continue}
-use Rattle.hook_runs.specs.steps.Starts.{after, before, filter_starts, is_filter, is_nat_start, after_conntrack, starts_before}
-use Rattle.hook_runs.specs.steps.Starts.{starts_of_stage, staged_starts, nat_starts}
-use Rattle.hook_runs.proofs.Orders.{filter_twice, in_text, some_in_order}
+use Rattle.hook_runs.specs.steps.Starts.{AreStagedChains, hook_of, in_order_result, is_that, stage_of, staged_starts, starts_of_stage, then_continue}
+use Rattle.compiler.proofs.OrderLaws.{filter_twice, some_in_order}
+use Rattle.hook_runs.proofs.Orders.{in_text}
 
 -- ---- one after another
 
@@ -52,14 +49,6 @@ module _ (first second : Traversal) (f : Facts) (es : List Event) (e : HookResul
 
   thens : Then first second f es (then_continue e next)
   thens = then_by (continues e.verdict) refl
-
-twice : (b : Bool) → not (not b) ≡ b
-twice true = refl
-twice false = refl
-
-once : (b c : Bool) → b && not c ≡ b && not (b && c)
-once true c = refl
-once false c = refl
 
 none_headed : (s : Start) (ss : List Start) → map start_head (s ∷ ss) ≡ [] → ⊥
 none_headed s ss e = cc
@@ -137,16 +126,6 @@ module _ (checked : CheckedTree) (code : Code) where
       → AreStarts checked code test ss → AreStarts checked code other ss
   alike test other same ss are = grind arith
 
-  earlier : (limit : ℤ) (test : BaseChain → Bool) (ss : List Start) → AreStarts checked code test ss
-      → AreStarts checked code (λ b. test b && is_below limit b) (before limit ss)
-  earlier limit = narrowed (starts_before limit) (is_below limit)
-      (λ s b same. ap (λ (t : StartHead). int_lt t.priority limit) same)
-
-  later : (limit : ℤ) (test : BaseChain → Bool) (ss : List Start) → AreStarts checked code test ss
-      → AreStarts checked code (λ b. test b && not (is_below limit b)) (after limit ss)
-  later limit = narrowed (λ s. not (starts_before limit s)) (λ b. not (is_below limit b))
-      (λ s b same. ap (λ (t : StartHead). not (int_lt t.priority limit)) same)
-
   -- ---- those of a hook
 
   module _ (starts : (hook : Hook) → HasStarts checked.rules hook (starts_of code hook))
@@ -195,38 +174,20 @@ module _ (checked : CheckedTree) (code : Code) where
               among_bases;
         }
 
-    of_filters : (hook : Hook) → AreStarts checked code (filter_chains_on hook) (filter_starts (starts_of code hook))
-    of_filters hook = narrowed is_filter (λ b. meaning.is_filter b.head.kind)
-        (λ s b same. ap (λ (t : StartHead). not t.is_nat) same ∙ twice (meaning.is_filter b.head.kind))
-        (is_on_hook hook) (starts_of code hook) (at_hook hook)
-
-    of_translators : (hook : Hook) → AreStarts checked code (nat_chains_on hook) (nat_starts (starts_of code hook))
-    of_translators hook =
-        narrowed is_nat_start (λ b. not (meaning.is_filter b.head.kind))
-        (λ s b same. ap (λ (t : StartHead). t.is_nat) same) (is_on_hook hook) (starts_of code hook) (at_hook hook)
-
-    of_late : AreStarts checked code is_after_conntrack (after_conntrack code)
-    of_late = alike (λ b. filter_chains_on hooks.Prerouting b && not (is_below (negsuc 198) b))
-        is_after_conntrack (λ b. once (filter_chains_on hooks.Prerouting b) (is_below (negsuc 198) b))
-        (after_conntrack code) (later (negsuc 198) (filter_chains_on hooks.Prerouting)
-        (filter_starts code.prerouting.items) (of_filters hooks.Prerouting))
-
     -- ---- those of a stage
 
-    of_part : (stage : HookStage) → AreStarts checked code (chains_in_stage stage) (starts_of_stage code stage)
-    of_part stages.PreroutingRaw = earlier (negsuc 198) (filter_chains_on hooks.Prerouting)
-        (filter_starts code.prerouting.items) (of_filters hooks.Prerouting)
-    of_part stages.PreroutingBeforeNat = earlier DSTNAT is_after_conntrack (after_conntrack code) of_late
-    of_part stages.PreroutingNat = of_translators hooks.Prerouting
-    of_part stages.PreroutingAfterNat = later DSTNAT is_after_conntrack (after_conntrack code) of_late
-    of_part stages.Input = of_filters hooks.Input
-    of_part stages.Forward = of_filters hooks.Forward
-    of_part stages.PostroutingBeforeNat = earlier SRCNAT (filter_chains_on hooks.Postrouting)
-        (filter_starts code.postrouting.items) (of_filters hooks.Postrouting)
-    of_part stages.PostroutingNat = of_translators hooks.Postrouting
-    of_part stages.PostroutingAfterNat = later SRCNAT (filter_chains_on hooks.Postrouting)
-        (filter_starts code.postrouting.items) (of_filters hooks.Postrouting)
+    -- the base chains of the stage's hook that run in it
+    of_stage : (stage : HookStage) (b : BaseChain)
+        → is_on_hook (hook_of stage) b && is_that stage (stage_of (hook_of stage) (base_chain_head b)) ≡ chains_in_stage stage b
+    of_stage stages.PreroutingRaw b = grind arith
+    of_stage stage b = grind arith
 
     pub of_parts : (p : StagedChains) → AreStagedChains code p → (stage : HookStage)
         → AreStarts checked code (chains_in_stage stage) (staged_starts p stage)
-    of_parts p are stage = subst (AreStarts checked code (chains_in_stage stage)) (sym (are stage)) (of_part stage)
+    of_parts p are stage =
+        let test : StartHead → Bool = λ h. is_that stage (stage_of (hook_of stage) h) in
+        let on : BaseChain → Bool = is_on_hook (hook_of stage) in
+        subst (AreStarts checked code (chains_in_stage stage)) (sym (are stage))
+        (alike (λ b. on b && test (base_chain_head b)) (chains_in_stage stage) (of_stage stage) (starts_of_stage code stage)
+        (narrowed (λ s. test (start_head s)) (λ b. test (base_chain_head b)) (λ s b same. ap test same) on
+        (starts_of code (hook_of stage)) (at_hook (hook_of stage))))

@@ -1,6 +1,6 @@
 -- One more item of a table.
-use Rattle.std.proofs.Common.{arith, drop, inl, ◌≤◌}
-use Rattle.rule_names.proofs.Names.{Bool, HasDuplicate, IsAdded, List, TableTree, Text, [], ap, ap₂, bytes_eq, false, get_or, inr, item_tree, length, list_any, map}
+use Rattle.std.proofs.Common.{arith, drop, inl}
+use Rattle.rule_names.proofs.Names.{Bool, HasDuplicate, IsAdded, List, Text, [], ap, ap₂, bytes_eq, false, get_or, inr, item_tree, length, list_any, map}
 use Rattle.rule_names.proofs.Names.{map-append, map-more, refl, subst, sym, take, true, ℕ, ⊎_elim, ◌++◌, ◌+◌, ◌<◌, ◌||◌, ◌∙◌, ◌∷◌, ◌≡◌}
 use Rattle.std.specs.List.{filter_map}
 use Rattle.std.proofs.lemmas.List.{append-nil}
@@ -14,12 +14,11 @@ use Rattle.nft_tree.specs.Tree.{ChainTree, ItemTree, MapTree, SetTree}
 use Rattle.nft_tree.specs.TreeViews.{chain_tree, map_tree, set_tree}
 use Rattle.nft_tree.specs.TableItems.{chain_in, map_in, set_in}
 use Rattle.rule_names.specs.declared.ruleset_names.ItemNames.{ItemNames}
-use Rattle.rule_names.specs.Names.{set_or_map_name}
 use Rattle.rule_names.specs.steps.Index.{IsAddedApart}
 use Rattle.rule_names.specs.steps.Table.{HasDuplicateIn, IsIndexOf, IsIndexOrDuplicate}
 use Rattle.rule_names.proofs.Items.{any-both, maps-among, maps-repeat, of_both, of_maps, of_sets, sets-among, sets-repeat}
 use Rattle.rule_names.proofs.Lists.{map-around}
-use Rattle.rule_names.proofs.Duplicates.{among-front, any-named, apart-more, named-any, repeats-on}
+use Rattle.rule_names.proofs.Duplicates.{among-front, any-named, apart-more, repeats-on}
 
 -- a list with a duplicate has one when it is longer
 pub repeats-in-on : (items more : List ItemTree) → HasDuplicateIn items → HasDuplicateIn (items ++ more)

@@ -1,6 +1,9 @@
 -- Base chains as starts of code: which run in which stage, their results one after another, and their
 -- costs.
-use Rattle.std.specs.Prelude.{◌≡◌, ℕ, ◌≤◌, ℤ, int_lt, negsuc, not, ◌&&◌, Bool, cond, List, [], ◌∷◌, filter, sum_by}
+use Rattle.std.specs.Prelude.{◌≡◌, ℕ, ◌≤◌, ℤ, int_lt, Bool, true, false, cond, List, [], ◌∷◌, filter, sum_by}
+use Rattle.std.specs.Prelude.{Option, Some, None}
+use Rattle.nft_tree.specs.declared.chain.Hook.{Hook}
+use Rattle.nft_tree.specs.declared.chain.Hook.TheVariants as hooks
 use Rattle.rule_check.specs.Checked.{CheckedTree}
 use Rattle.rule_meaning.specs.declared.facts.Facts.{Facts}
 use Rattle.rule_meaning.specs.declared.event.Event.{Event}
@@ -8,8 +11,9 @@ use Rattle.rule_meaning.specs.declared.event.HookVerdict.TheVariants.{Accepted}
 use Rattle.rule_meaning.specs.Hooks.{HookResult}
 use Rattle.filter_vm.specs.declared.code.Code.{Code}
 use Rattle.filter_vm.specs.declared.code.Start.{Start}
-use Rattle.filter_vm.specs.Machine.{base_chain_result}
-use Rattle.nft_tree.specs.Priorities.{DSTNAT, SRCNAT}
+use Rattle.filter_vm.specs.Machine.{base_chain_result, starts_of}
+use Rattle.compiler.specs.Compiled.{StartHead, start_head}
+use Rattle.nft_tree.specs.Priorities.{AFTER_CONNTRACK, DSTNAT, SRCNAT}
 use Rattle.rule_meaning.specs.Hooks.{chains_in_stage}
 use Rattle.hook_runs.specs.Stages.{StageCosts, StageStarts, CostedTree, total_stage_cost, stage_starts}
 use Rattle.rule_meaning.specs.declared.stage.HookStage.{HookStage}
@@ -35,57 +39,60 @@ starts_in p = record {
 abbrev pub staged_starts : StagedChains → HookStage → List Start
 staged_starts p = stage_starts (starts_in p)
 
-abbrev pub is_filter : Start → Bool
-is_filter s = not s.is_nat
+abbrev pub comes_before : ℤ → StartHead → Bool
+comes_before priority s = int_lt s.priority priority
 
-abbrev pub is_nat_start : Start → Bool
-is_nat_start s = s.is_nat
+-- the stage of a start on prerouting, and on postrouting
+abbrev pub prerouting_stage : StartHead → HookStage
+prerouting_stage s = cond s.is_nat stages.PreroutingNat (cond (comes_before AFTER_CONNTRACK s) stages.PreroutingRaw
+    (cond (comes_before DSTNAT s) stages.PreroutingBeforeNat stages.PreroutingAfterNat))
 
-abbrev pub starts_before : ℤ → Start → Bool
-starts_before priority s = int_lt s.priority priority
+abbrev pub postrouting_stage : StartHead → HookStage
+postrouting_stage s = cond s.is_nat stages.PostroutingNat
+    (cond (comes_before SRCNAT s) stages.PostroutingBeforeNat stages.PostroutingAfterNat)
 
--- the filters that run after the conntrack lookup
-abbrev pub is_late : Start → Bool
-is_late s = is_filter s && not (starts_before (negsuc 198) s)
+-- of one on a hook
+abbrev pub stage_of : Hook → StartHead → Option HookStage
+stage_of hooks.Prerouting s = Some (prerouting_stage s)
+stage_of hooks.Input s = cond s.is_nat None (Some stages.Input)
+stage_of hooks.Forward s = cond s.is_nat None (Some stages.Forward)
+stage_of hooks.Output s = None
+stage_of hooks.Postrouting s = Some (postrouting_stage s)
 
--- whether a start of the stage's hook runs in the stage
-abbrev pub is_in_stage : HookStage → Start → Bool
-is_in_stage stages.PreroutingRaw s = is_filter s && starts_before (negsuc 198) s
-is_in_stage stages.PreroutingBeforeNat s = is_late s && starts_before DSTNAT s
-is_in_stage stages.PreroutingNat s = is_nat_start s
-is_in_stage stages.PreroutingAfterNat s = is_late s && not (starts_before DSTNAT s)
-is_in_stage stages.Input s = is_filter s
-is_in_stage stages.Forward s = is_filter s
-is_in_stage stages.PostroutingBeforeNat s = is_filter s && starts_before SRCNAT s
-is_in_stage stages.PostroutingNat s = is_nat_start s
-is_in_stage stages.PostroutingAfterNat s = is_filter s && not (starts_before SRCNAT s)
+abbrev pub same_stage : HookStage → HookStage → Bool
+same_stage stages.PreroutingRaw stages.PreroutingRaw = true
+same_stage stages.PreroutingBeforeNat stages.PreroutingBeforeNat = true
+same_stage stages.PreroutingNat stages.PreroutingNat = true
+same_stage stages.PreroutingAfterNat stages.PreroutingAfterNat = true
+same_stage stages.Input stages.Input = true
+same_stage stages.Forward stages.Forward = true
+same_stage stages.PostroutingBeforeNat stages.PostroutingBeforeNat = true
+same_stage stages.PostroutingNat stages.PostroutingNat = true
+same_stage stages.PostroutingAfterNat stages.PostroutingAfterNat = true
+same_stage _ _ = false
 
-abbrev pub filter_starts : List Start → List Start
-filter_starts = filter is_filter
+abbrev pub is_that : HookStage → Option HookStage → Bool
+is_that stage None = false
+is_that stage (Some its) = same_stage its stage
 
-abbrev pub nat_starts : List Start → List Start
-nat_starts = filter is_nat_start
+-- whether a start of a hook runs in the stage
+abbrev pub runs_in : Hook → HookStage → Start → Bool
+runs_in hook stage s = is_that stage (stage_of hook (start_head s))
 
--- the starts below a priority, and the others
-abbrev pub before : ℤ → List Start → List Start
-before priority = filter (starts_before priority)
+abbrev pub hook_of : HookStage → Hook
+hook_of stages.PreroutingRaw = hooks.Prerouting
+hook_of stages.PreroutingBeforeNat = hooks.Prerouting
+hook_of stages.PreroutingNat = hooks.Prerouting
+hook_of stages.PreroutingAfterNat = hooks.Prerouting
+hook_of stages.Input = hooks.Input
+hook_of stages.Forward = hooks.Forward
+hook_of stages.PostroutingBeforeNat = hooks.Postrouting
+hook_of stages.PostroutingNat = hooks.Postrouting
+hook_of stages.PostroutingAfterNat = hooks.Postrouting
 
-abbrev pub after : ℤ → List Start → List Start
-after priority = filter (λ s. not (starts_before priority s))
-
-abbrev pub after_conntrack : Code → List Start
-after_conntrack code = after (negsuc 198) (filter_starts code.prerouting.items)
-
+-- those of its hook that run in it, in their order
 abbrev pub starts_of_stage : Code → HookStage → List Start
-starts_of_stage code stages.PreroutingRaw = before (negsuc 198) (filter_starts code.prerouting.items)
-starts_of_stage code stages.PreroutingBeforeNat = before DSTNAT (after_conntrack code)
-starts_of_stage code stages.PreroutingNat = nat_starts code.prerouting.items
-starts_of_stage code stages.PreroutingAfterNat = after DSTNAT (after_conntrack code)
-starts_of_stage code stages.Input = filter_starts code.input.items
-starts_of_stage code stages.Forward = filter_starts code.forward.items
-starts_of_stage code stages.PostroutingBeforeNat = before SRCNAT (filter_starts code.postrouting.items)
-starts_of_stage code stages.PostroutingNat = nat_starts code.postrouting.items
-starts_of_stage code stages.PostroutingAfterNat = after SRCNAT (filter_starts code.postrouting.items)
+starts_of_stage code stage = filter (runs_in (hook_of stage) stage) (starts_of code (hook_of stage))
 
 abbrev pub AreStagedChains : Code → StagedChains → Type 0
 AreStagedChains code p = (stage : HookStage) → staged_starts p stage ≡ starts_of_stage code stage

@@ -1,6 +1,5 @@
-use Rattle.rule_names.proofs.Names.{All, HasUniqueNames, List, [], ap, ap₂, arith, inr, item_tree, map, map-append, map-more, subst, sym, table_tree, take, ⊎_elim}
+use Rattle.rule_names.proofs.Names.{All, HasUniqueNames, [], ap, ap₂, arith, map, map-append, map-more, subst, sym, table_tree, take, ⊎_elim}
 use Rattle.rule_names.proofs.Names.{◌++◌, ◌∙◌, ◌∷◌}
-use Rattle.std.proofs.Common.{inl}
 use Rattle.std.proofs.lemmas.List.{take_all}
 use Rattle.std.proofs.lemmas.List.Elements.{All-push}
 use Rattle.std.proofs.lemmas.Option.{MatchOption-at_none}

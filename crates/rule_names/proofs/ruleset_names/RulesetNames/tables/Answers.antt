@@ -1,4 +1,4 @@
-use Rattle.rule_names.proofs.Names.{ap, get_or, subst, sym, table_tree, ⊎_elim, ◌∙◌}
+use Rattle.rule_names.proofs.Names.{ap, get_or, table_tree, ⊎_elim, ◌∙◌}
 use Rattle.rule_names.specs.Names.{two_chains, two_sets_or_maps}
 use Rattle.rule_names.proofs.Lists.{Contains-map}
 use Rattle.rule_names.proofs.Tables.{names-at}
