@@ -1,7 +1,7 @@
 //! A conntrack table with the NAT mappings of its entries.
 ghost use Rattle.std.specs.Prelude.{◌≡◌, ◌+◌, ◌<◌, ◌≤◌, ◌↔◌, ◌++◌, ◌∷◌, [], IsTrue, List, false, length, map, IfOk, IsOk, OnErr, OnOk, Err};
 ghost use Rattle.ip_headers.specs.declared.tuple.Mapping.{Mapping};
-ghost use Rattle.conntrack.specs.declared.connection.ConnId.{ConnId};
+ghost use Rattle.conntrack.specs.declared.connection.ConnId.{ConnId as TheId};
 ghost use Rattle.conntrack.specs.ConntrackEntry.{belongs_in, connection_of};
 ghost use Rattle.conntrack.specs.TableEntries.{IsNoneLater, begun_with};
 ghost use Rattle.conntrack.specs.ConntrackEntry.{is_taken, max_connections};
@@ -19,7 +19,7 @@ ghost use Rattle.connection_table.specs.Table.{IsConfirmable, begun_as};
 use box_file::Limits;
 use conntrack::laws::{looked_up, none_later};
 use conntrack::{
-    Aged, BeginError, Belonging, Connection, ConnectionRef, Flags, Memory, Moment, Tracker,
+    Aged, BeginError, Belonging, ConnId, Connection, Direction, Flags, Memory, Moment, Tracker,
 };
 use ip_headers::{Mapping as Mapped, Tuple};
 use nat_mapping::Mappings;
@@ -166,17 +166,17 @@ impl<T: Tracker> ConnectionTable<T> {
     }
 
     /// Updates an entry for one more packet, which sets this mark.
-    pub fn touch(&mut self, found: &ConnectionRef, flags: Flags, mark: u32, now: Moment)
-        requires is_held { IsTrue (has_id found.now.id self.old.held) }
+    pub fn touch(&mut self, id: ConnId, direction: Direction, flags: Flags, mark: u32, now: Moment)
+        requires is_held { IsTrue (has_id id self.old.held) }
         requires later { IsNoneLater now self.old.held }
         ensures held { self.new.held
-            ≡ touched_at found.now.id found.now.direction flags mark now self.old.held }
+            ≡ touched_at id direction flags mark now self.old.held }
         ensures limits { self.new.limits ≡ self.old.limits }
         ensures room { IsTrue self.old.has_room → IsTrue self.new.has_room }
     {
         let mut steps = start();
         self.tracker
-            .touch(found.id, found.direction, flags, mark, now, &mut steps);
+            .touch(id, direction, flags, mark, now, &mut steps);
     }
 
     /// Creates the entry of a new connection with its first packet, which had these flags and sets
@@ -197,7 +197,7 @@ impl<T: Tracker> ConnectionTable<T> {
         requires free { is_taken new_connection.now.original self.old.held ≡ false }
         requires later { IsNoneLater now self.old.held }
         requires fits { IsFitting new_connection.now (mappings_in self.old.held) }
-        ensures ok { OnOk result ((id : ConnId) × (has_id id self.old.held ≡ false)
+        ensures ok { OnOk result ((id : TheId) × (has_id id self.old.held ≡ false)
             × (self.new.held ≡ self.old.held
             ++ begun_with id (begun_as new_connection.now mark now) flags ∷ [])) }
         ensures full { (result ≡ Err BeginError.Full) ↔ (max_connections ≤ length self.old.held) }

@@ -7,7 +7,6 @@ pub use Rattle.conntrack.specs.TableEntries.{live_at}
 pub use Rattle.conntrack.specs.Histories.{is_creation, live_list}
 pub use Rattle.conntrack.specs.Updates.{Arrival, Confirmation, Unconfirmed, after_end, after_packet, change_of_packet, entry_at}
 pub use Rattle.conntrack.specs.declared.belonging.Belonging.{Belonging}
-pub use Rattle.conntrack.specs.declared.belonging.Belonging.TheVariants.{NotFound}
 pub use Rattle.conntrack.specs.declared.connection.ConnId.{ConnId}
 pub use Rattle.conntrack.specs.declared.connection.ConntrackEntry.{ConntrackEntry}
 pub use Rattle.conntrack.specs.declared.connection.Flags.{Flags}
@@ -41,7 +40,7 @@ pub use Rattle.stepping.specs.Paths.{AfterRouting, Continue, DestinationNat, Dro
 pub use Rattle.stepping.specs.Paths.{StepResult, after_chains, destination_nat_result, goes_on, on_arrival, routed, source_nat_result, stops, unless_dropped}
 pub use Rattle.stepping.specs.Paths.{◌⨾◌}
 pub use Rattle.stepping.specs.Representing.{EngineState, ShownEntry, newest_of, recorded_of, shown_entry}
-pub use Rattle.stepping.specs.steps.Confirming.{CanConfirm, Confirms, begins, begun_in, belonging_in, confirmed_in}
+pub use Rattle.stepping.specs.steps.Confirming.{CanConfirm, Confirms, begins, begun_in, confirmed_in, entry_in, entry_of}
 pub use Rattle.stepping.specs.steps.Interfaces.{interfaces_of, is_at}
 pub use Rattle.stepping.specs.steps.Processing.{Extends, Follows, HasProcessed, IsBeforeFirst, held_by, newest_in}
 pub use Rattle.stepping.specs.steps.Steps.{Spends, TakesStep, path_state, setup_in, step_result}

@@ -17,13 +17,13 @@ spent_both a b s t = grind arith
 pub of_step : {taken : List Mapping → Step} {mappings : List Mapping} {cost : ℕ} {old new : PacketState}
     {before after : EventsAndTicks} {answer : Result (Unit {0}) Cause}
     → ((held : List Mapping) → taken held (path_state old before) (step_result answer (path_state new after)))
-    → new.info ≡ old.info → Spends before after cost → TakesStep taken mappings cost old before new after answer
-of_step ran info spent = grind arith
+    → new.info ≡ old.info → new.entry ≡ old.entry → Spends before after cost → TakesStep taken mappings cost old before new after answer
+of_step ran info entry spent = grind arith
 
 pub at_cost : {step : List Mapping → Step} {mappings : List Mapping} {a b : ℕ} {old new : PacketState}
     {before after : EventsAndTicks} {answer : Result (Unit {0}) Cause} → Spends before after b
     → TakesStep step mappings a old before new after answer → TakesStep step mappings b old before new after answer
-at_cost spent t = record { step = t.step; fits = t.fits; same = t.same; spent = spent }
+at_cost spent t = record { step = t.step; fits = t.fits; same = t.same; entry = t.entry; spent = spent }
 
 -- less than may be spent
 pub beside : {step : List Mapping → Step} {mappings : List Mapping} {b : ℕ} {old new : PacketState}
@@ -40,6 +40,7 @@ module _ {first second : List Mapping → Step} {mappings : List Mapping} {old n
     step = λ held same. stops _ _ (t.step held same);
     fits = t.fits;
     same = t.same;
+    entry = t.entry;
     spent = spent_both a b t.spent (unspent _ b);
   }
 
@@ -50,5 +51,6 @@ module _ {first second : List Mapping → Step} {mappings : List Mapping} {old n
     step = λ held same. goes_on _ _ (t.step held same) (u.step held same);
     fits = λ held same fits. u.fits held same (t.fits held same fits);
     same = u.same ∙ t.same;
+    entry = u.entry ∙ t.entry;
     spent = spent_both a b t.spent u.spent;
   }

@@ -2,16 +2,17 @@
 ghost use Rattle.std.specs.Prelude.{◌≡◌, IsTrue, false};
 ghost use Rattle.conntrack.specs.ConntrackEntry.{is_taken};
 ghost use Rattle.conntrack.specs.TableEntries.{IsNoneLater};
-ghost use Rattle.conntrack.specs.declared.belonging.Belonging.{Belonging as TheBelonging};
+ghost use Rattle.conntrack.specs.declared.connection.ConnId.{ConnId as TheId};
 ghost use Rattle.translation.specs.declared.ct_info.CtInfo.TheVariants.{New};
+ghost use Rattle.translation.specs.CtInfos.{untranslated};
 ghost use Rattle.translation.specs.Fitting.{Fits, IsFitting};
 ghost use Rattle.translation.specs.LiveMappings.{mappings_in};
 ghost use Rattle.stepping.specs.Confirmations.{mark_in};
-ghost use Rattle.stepping.specs.steps.Confirming.{IsHeld, CanConfirm, Confirms, begun_in, touched_for};
+ghost use Rattle.stepping.specs.steps.Confirming.{CanConfirm, Confirms, begun_in};
 
 use crate::state::PacketState;
 use connection_table::ConnectionTable;
-use conntrack::{BeginError, Belonging, Flags, Moment, Tracker};
+use conntrack::{BeginError, Flags, Moment, Tracker};
 use history::Cause;
 use rule_meaning::CtFacts;
 use translation::{CtInfo, NewConnection};
@@ -23,16 +24,16 @@ use translation::{CtInfo, NewConnection};
 /// `Full` or `Clash` where a new connection can't begin; then it holds no mapping either.
 pub fn confirm<T: Tracker>(
     connections: &mut ConnectionTable<T>,
-    belonging: Belonging,
     flags: Flags,
     now: Moment,
     state: &PacketState,
 ) -> Result<bool, Cause>
-    requires confirmable { CanConfirm belonging state.now.info connections.old.held }
+    requires confirmable { CanConfirm state.now.entry (untranslated state.now.info)
+        connections.old.held }
     requires later { IsNoneLater now connections.old.held }
     requires room { IsTrue connections.old.has_room }
     requires fits { Fits state.now.info (mappings_in connections.old.held) }
-    ensures confirms { Confirms now flags belonging state.now.info (mark_in state.now.facts.ct)
+    ensures confirms { Confirms now flags state.now.entry state.now.info (mark_in state.now.facts.ct)
         connections.old.held connections.new.held result }
     ensures limits { connections.new.limits ≡ connections.old.limits }
     // Only a new connection takes what is reserved.
@@ -40,33 +41,13 @@ pub fn confirm<T: Tracker>(
 {
     let mark = mark_in(state.facts.ct);
     match &state.info {
-        CtInfo::Tracked(_) => {
-            touch(connections, belonging, flags, mark, now);
+        CtInfo::Tracked(connection) => {
+            connections.touch(state.entry, connection.direction, flags, mark, now);
             Ok(false)
         }
         CtInfo::New(new_connection) => begin(connections, new_connection, flags, mark, now),
         // An ICMP error doesn't refresh its connection.
         _ => Ok(false),
-    }
-}
-
-/// Refreshes the connection of a packet.
-fn touch<T: Tracker>(
-    connections: &mut ConnectionTable<T>,
-    belonging: Belonging,
-    flags: Flags,
-    mark: u32,
-    now: Moment,
-)
-    requires is_held { IsHeld belonging connections.old.held }
-    requires later { IsNoneLater now connections.old.held }
-    ensures held { connections.new.held
-        ≡ touched_for belonging flags mark now connections.old.held }
-    ensures limits { connections.new.limits ≡ connections.old.limits }
-    ensures room { IsTrue connections.old.has_room → IsTrue connections.new.has_room }
-{
-    if let Belonging::Found(found) = belonging {
-        connections.touch(&found, flags, mark, now);
     }
 }
 
@@ -85,8 +66,8 @@ fn begin<T: Tracker>(
     requires later { IsNoneLater now connections.old.held }
     requires room { IsTrue connections.old.has_room }
     requires fits { IsFitting new_connection.now (mappings_in connections.old.held) }
-    ensures confirms { (belonging : TheBelonging)
-        → Confirms now flags belonging (New new_connection.now) mark connections.old.held
+    ensures confirms { (entry : TheId)
+        → Confirms now flags entry (New new_connection.now) mark connections.old.held
         connections.new.held result }
     ensures limits { connections.new.limits ≡ connections.old.limits }
     ensures room { begun_in result ≡ false → IsTrue connections.new.has_room }

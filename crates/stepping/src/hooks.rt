@@ -63,6 +63,7 @@ fn route(setup: &Setup, state: &mut PacketState) -> Result<(), Cause>
         → Routing (setup_in setup.now.hooks) (path_state state.old events)
         (step_result result (path_state state.new events)) }
     ensures info { state.new.info ≡ state.old.info }
+    ensures entry { state.new.entry ≡ state.old.entry }
 {
     let plant = setup.plant();
     let destination = state.facts.packet.destination;

@@ -4,24 +4,23 @@ ghost use Rattle.conntrack.specs.TableEntries.{IsNoneLater, live_at};
 ghost use Rattle.filter_vm.specs.Machine.{EventsAndTicks};
 ghost use Rattle.translation.specs.Fitting.{Fits};
 ghost use Rattle.translation.specs.LiveMappings.{mappings_in};
-ghost use Rattle.translation.specs.declared.ct_info.CtInfo.{CtInfo as TheCtInfo};
 ghost use Rattle.translation.specs.CtInfos.{error_ct_info, untranslated};
 ghost use Rattle.ip_headers.specs.Header.{transport_of};
 ghost use Rattle.ip_headers.specs.Tuple.{inner_tuple_of};
 ghost use Rattle.stepping.specs.Lookups.{error_belonging, flags_in, looked_up_info, others_beside};
 ghost use Rattle.stepping.specs.Next.{with_info};
-ghost use Rattle.stepping.specs.steps.Confirming.{CanConfirm, belonging_in};
+ghost use Rattle.stepping.specs.steps.Confirming.{CanConfirm, entry_in};
 ghost use Rattle.stepping.specs.steps.Steps.{path_state};
 
 use crate::state::PacketState;
 use connection_table::ConnectionTable;
-use conntrack::{Belonging, Flags, Moment, Tracker};
+use conntrack::{Flags, Moment, Tracker};
 use ip_headers::{Transport, View};
 use rule_meaning::CtFacts;
 use translation::CtInfo;
 
 /// Looks up a packet's connection, unless a `notrack` statement was evaluated, and sets the
-/// packet's state. A lone SYN removes the closing connection that it belongs to, whatever the rules
+/// packet's state and entry. A lone SYN removes the closing connection that it belongs to, whatever the rules
 /// do. All connections held are live at `now`.
 pub fn look_up<T: Tracker>(
     connections: &mut ConnectionTable<T>,
@@ -29,7 +28,7 @@ pub fn look_up<T: Tracker>(
     flags: Flags,
     now: Moment,
     state: &mut PacketState,
-) -> Belonging
+)
     requires flags { flags ≡ flags_in (transport_of view.now.packet.now) }
     requires live { live_at connections.old.limits now connections.old.held ≡ connections.old.held }
     requires later { IsNoneLater now connections.old.held }
@@ -37,29 +36,28 @@ pub fn look_up<T: Tracker>(
     ensures step { (events : EventsAndTicks) → path_state state.new events
         ≡ with_info (looked_up_info state.old.facts.ct connections.old.held view.now.packet.now)
         (path_state state.old events) }
-    ensures belonging { result
-        ≡ belonging_in state.new.info connections.old.held view.now.packet.now }
+    ensures entry { state.new.entry
+        ≡ entry_in state.old.entry state.new.info connections.old.held view.now.packet.now }
     ensures held { connections.new.held
         ≡ others_beside state.new.info connections.old.held view.now.packet.now }
     ensures limits { connections.new.limits ≡ connections.old.limits }
     ensures later { IsNoneLater now connections.new.held }
     ensures room { IsTrue connections.new.has_room }
     // It can be confirmed, whatever NAT does to it.
-    ensures confirmable { (after : TheCtInfo) → untranslated after ≡ untranslated state.new.info
-        → CanConfirm result after connections.new.held }
+    ensures confirmable { CanConfirm state.new.entry (untranslated state.new.info)
+        connections.new.held }
     ensures fits { Fits state.new.info (mappings_in connections.new.held) }
 {
     if let CtFacts::Notrack = state.facts.ct {
         state.set_info(CtInfo::Untracked);
-        return Belonging::NotFound;
+        return;
     }
     let Some(tuple) = view.tuple() else {
         state.set_info(error_ct_info(connections, view, now));
-        return Belonging::NotFound;
+        return;
     };
     let belonging = connections.look_up(tuple, flags, now);
-    state.set_info(CtInfo::of(tuple, belonging));
-    belonging
+    state.set_belonging(tuple, belonging);
 }
 
 /// The state of a packet without a tuple: RELATED for an ICMP error about a live connection.

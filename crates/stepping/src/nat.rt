@@ -9,7 +9,7 @@ use crate::state::PacketState;
 use history::Cause;
 use hook_runs::{Events, HookStage};
 use nat_mapping::{MapError, Mappings};
-use rule_meaning::HookVerdict;
+use rule_meaning::{Facts, HookVerdict};
 use translation::{
     CtInfo, apply_destination_nat, apply_source_nat, update_destination, update_source,
 };
@@ -33,18 +33,18 @@ pub fn translate_destination(
         update_destination(&state.info, &mut state.facts);
         return Ok(());
     };
-    let verdict = run_nat_chains(setup, HookStage::PreroutingNat, state, events);
+    let stage = HookStage::PreroutingNat;
+    let verdict = run_nat_chains(setup, stage, &state.info, &mut state.facts, events);
     if let HookVerdict::Dropped = verdict {
         return Err(Cause::Rule);
     }
     apply_destination_nat(
         setup.plant(),
         mappings,
-        &state.facts,
-        &mut state.info,
         verdict,
+        &mut state.info,
+        &mut state.facts,
     );
-    update_destination(&state.info, &mut state.facts);
     Ok(())
 }
 
@@ -67,22 +67,21 @@ pub fn translate_source(
         update_source(&state.info, &mut state.facts);
         return Ok(());
     };
-    let verdict = run_nat_chains(setup, HookStage::PostroutingNat, state, events);
+    let stage = HookStage::PostroutingNat;
+    let verdict = run_nat_chains(setup, stage, &state.info, &mut state.facts, events);
     if let HookVerdict::Dropped = verdict {
         return Err(Cause::Rule);
     }
     match apply_source_nat(
         setup.plant(),
         mappings,
-        &state.facts,
-        &mut state.info,
         verdict,
+        &mut state.info,
+        &mut state.facts,
     ) {
-        Ok(()) => {}
-        Err(MapError::NoPort) => return Err(Cause::NoPort),
+        Ok(()) => Ok(()),
+        Err(MapError::NoPort) => Err(Cause::NoPort),
     }
-    update_source(&state.info, &mut state.facts);
-    Ok(())
 }
 
 /// Runs the nat chains of a hook for a new connection; no other packet sees them.
@@ -90,18 +89,17 @@ pub fn translate_source(
 fn run_nat_chains(
     setup: &Setup,
     stage: HookStage,
-    state: &mut PacketState,
+    info: &CtInfo,
+    facts: &mut Facts,
     events: &mut Events,
 ) -> HookVerdict
     requires room { HasRoom events.old (stage_cost setup.now.hooks stage) }
-    ensures ran { NatChains (setup_in setup.now.hooks) stage state.old.info state.old.facts
-        events.old.events
-        (record { verdict = result; facts = state.new.facts; events = events.new.events }) }
-    ensures info { state.new.info ≡ state.old.info }
+    ensures ran { NatChains (setup_in setup.now.hooks) stage info.now facts.old events.old.events
+        (record { verdict = result; facts = facts.new; events = events.new.events }) }
     ensures spent { Spends events.old events.new (stage_cost setup.now.hooks stage) }
 {
-    match &state.info {
-        CtInfo::New(_) => setup.hooks.run(stage, &mut state.facts, events),
+    match info {
+        CtInfo::New(_) => setup.hooks.run(stage, facts, events),
         CtInfo::Tracked(_) | CtInfo::Related(_) | CtInfo::Invalid | CtInfo::Untracked =>
             HookVerdict::Accepted,
     }

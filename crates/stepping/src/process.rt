@@ -112,9 +112,9 @@ fn process_packet<T: Tracker>(
 {
     let flags = flags_in(state.facts.packet.transport);
     setup.run(HookStage::PreroutingRaw, state, events)?;
-    let belonging = look_up(connections, view, flags, now, state);
+    look_up(connections, view, flags, now, state);
     run_hooks(setup, connections.mappings(), state, events)?;
-    confirm(connections, belonging, flags, now, state)
+    confirm(connections, flags, now, state)
 }
 
 /// Writes the packet as it leaves, if it is forwarded: with its tuple after NAT and its TTL

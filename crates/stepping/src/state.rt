@@ -4,9 +4,12 @@ ghost use Rattle.filter_vm.specs.Machine.{EventsAndTicks};
 ghost use Rattle.stepping.specs.Carried.{packet_facts};
 ghost use Rattle.stepping.specs.Next.{with_info};
 ghost use Rattle.stepping.specs.Paths.{on_arrival};
+ghost use Rattle.stepping.specs.steps.Confirming.{entry_of};
 ghost use Rattle.stepping.specs.steps.Steps.{path_state};
+ghost use Rattle.translation.specs.CtInfos.{ct_info_by};
 
-use ip_headers::{Transport, View};
+use conntrack::{Belonging, ConnId};
+use ip_headers::{Transport, Tuple, View};
 use rule_meaning::{CtFacts, Facts, Interface, Packet};
 use translation::CtInfo;
 
@@ -17,6 +20,8 @@ pub struct PacketState {
     pub facts: Facts,
     /// Its state in connection tracking.
     pub info: CtInfo,
+    /// The entry of its connection where it is tracked; else one of an earlier packet.
+    pub entry: ConnId,
 }
 
 impl PacketState {
@@ -38,6 +43,7 @@ impl PacketState {
                 ct: CtFacts::NotLookedUp,
             },
             info: CtInfo::Untracked,
+            entry: ConnId(0),
         }
     }
 
@@ -61,9 +67,24 @@ impl PacketState {
         ensures state { (events : EventsAndTicks)
             → path_state self.new events ≡ with_info info (path_state self.old events) }
         ensures info { self.new.info ≡ info }
+        ensures entry { self.new.entry ≡ self.old.entry }
     {
+        self.facts.ct = info.ct();
         self.info = info;
-        self.facts.ct = self.info.ct();
+    }
+
+    /// The same by the look-up of its tuple, and its entry.
+    #[inline(always)]
+    pub fn set_belonging(&mut self, tuple: Tuple, belonging: Belonging)
+        ensures state { (events : EventsAndTicks) → path_state self.new events
+            ≡ with_info (ct_info_by tuple belonging) (path_state self.old events) }
+        ensures info { self.new.info ≡ ct_info_by tuple belonging }
+        ensures entry { self.new.entry ≡ entry_of self.old.entry belonging }
+    {
+        if let Belonging::Found(found) = &belonging {
+            self.entry = found.id;
+        }
+        self.set_info(CtInfo::of(tuple, belonging));
     }
 }
 

@@ -3,11 +3,12 @@ ghost use Rattle.std.specs.Prelude.{◌≡◌, List};
 ghost use Rattle.ip_headers.specs.declared.tuple.Mapping.{Mapping as Mapped};
 ghost use Rattle.nat_mapping.specs.HeldMappings.{HoldsSame};
 ghost use Rattle.translation.specs.Fitting.{Fits, IsFitting};
-ghost use Rattle.translation.specs.CtInfos.{untranslated};
+ghost use Rattle.translation.specs.CtInfos.{facts_after_destination_nat, untranslated};
 ghost use Rattle.translation.specs.Nat.{statement_destination, internal_endpoint, with_destination_nat, has_ports};
 ghost use Rattle.translation.specs.Nat.{to_internal, port_named, after_destination_nat};
 
 use crate::ct_info::{CtInfo, NewConnection};
+use crate::facts::update_destination;
 use box_file::Plant;
 use ip_headers::{Endpoint, Kind, Mapping};
 use nat_mapping::Mappings;
@@ -15,18 +16,20 @@ use nat_mapping::laws::inbound_is_held;
 use rule_meaning::{Facts, HookVerdict, NatAction};
 
 /// Destination NAT, by the verdict of the nat chains: a new connection goes where a NAT statement
-/// sends it, or without one to the internal endpoint of a live mapping.
+/// sends it, or without one to the internal endpoint of a live mapping. Rules then read each
+/// packet's destination after NAT.
 #[inline(always)]
 pub fn apply_destination_nat(
     plant: &Plant,
     mappings: &Mappings,
-    facts: &Facts,
-    info: &mut CtInfo,
     verdict: HookVerdict,
+    info: &mut CtInfo,
+    facts: &mut Facts,
 )
     // For each list that represents the mappings held.
     ensures info { (held : List Mapped) → HoldsSame held mappings.now.held
-        → info.new ≡ after_destination_nat plant.now held facts.now info.old verdict }
+        → info.new ≡ after_destination_nat plant.now held facts.old info.old verdict }
+    ensures facts { facts.new ≡ facts_after_destination_nat info.new facts.old }
     ensures fits { (held : List Mapped) → HoldsSame held mappings.now.held → Fits info.old held
         → Fits info.new held }
     // The connection stays the same.
@@ -35,6 +38,7 @@ pub fn apply_destination_nat(
     if let CtInfo::New(new_connection) = info {
         translate_destination(plant, mappings, facts, new_connection, verdict);
     }
+    update_destination(info, facts);
 }
 
 fn translate_destination(

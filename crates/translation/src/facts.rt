@@ -10,7 +10,7 @@ use crate::ct_info::{
 use ip_headers::{Endpoint, Transport};
 use rule_meaning::{CtFacts, Facts, Packet};
 
-/// Updates the facts after destination NAT.
+/// Updates the facts after destination NAT; of a connection that exists its tuples tell it.
 #[inline(always)]
 pub fn update_destination(info: &CtInfo, facts: &mut Facts)
     ensures { facts.new ≡ facts_after_destination_nat info.now facts.old }

@@ -1,15 +1,16 @@
 //! Source NAT.
-ghost use Rattle.std.specs.Prelude.{◌≡◌, List, OnErr};
+ghost use Rattle.std.specs.Prelude.{◌≡◌, List, OnErr, OnOk};
 ghost use Rattle.std.specs.Option.{option_map};
 ghost use Rattle.std.specs.Result.{result_ok};
 ghost use Rattle.ip_headers.specs.declared.tuple.Mapping.{Mapping as Mapped};
 ghost use Rattle.nat_mapping.specs.HeldMappings.{HoldsSame};
 ghost use Rattle.translation.specs.Fitting.{Fits, IsFitting};
-ghost use Rattle.translation.specs.CtInfos.{untranslated};
+ghost use Rattle.translation.specs.CtInfos.{facts_after_source_nat, untranslated};
 ghost use Rattle.translation.specs.Nat.{with_source_nat, with_source_mapping, range_of, after_source_nat};
 
 use crate::ct_info::{CtInfo, NewConnection};
 use crate::external::{ExternalSource, external_source};
+use crate::facts::update_source;
 use box_file::Plant;
 use ip_headers::{Endpoint, Mapping};
 use nat_mapping::laws::stays_one_to_one;
@@ -18,32 +19,34 @@ use port_pool::CandidateRange;
 use rule_meaning::{Facts, HookVerdict, PortInterval};
 
 /// Source NAT, by the verdict of the nat chains: the source of a new connection is mapped by a NAT
-/// statement, or for hairpinning.
+/// statement, or for hairpinning. Rules then read each packet's source after NAT.
 ///
 /// # Errors
-/// No port is free. The state is unchanged.
+/// No port is free. State and facts are unchanged.
 #[inline(always)]
 pub fn apply_source_nat(
     plant: &Plant,
     mappings: &Mappings,
-    facts: &Facts,
-    info: &mut CtInfo,
     verdict: HookVerdict,
+    info: &mut CtInfo,
+    facts: &mut Facts,
 ) -> Result<(), MapError>
     // For each list that represents the mappings held.
     ensures info { (held : List Mapped) → HoldsSame held mappings.now.held
-        → after_source_nat plant.now held facts.now info.old verdict
+        → after_source_nat plant.now held facts.old info.old verdict
         ≡ option_map (λ _. info.new) (result_ok result) }
+    ensures facts { OnOk result (facts.new ≡ facts_after_source_nat info.new facts.old) }
     ensures fits { (held : List Mapped) → HoldsSame held mappings.now.held → Fits info.old held
         → Fits info.new held }
     // The connection stays the same.
     ensures same { untranslated info.new ≡ untranslated info.old }
-    ensures err { OnErr result (info.new ≡ info.old) }
+    ensures err { OnErr result ((info.new ≡ info.old) × (facts.new ≡ facts.old)) }
 {
     if let CtInfo::New(new_connection) = info {
         let external_source = external_source(plant, facts, new_connection, verdict);
-        return translate_source(mappings, new_connection, external_source);
+        translate_source(mappings, new_connection, external_source)?;
     }
+    update_source(info, facts);
     Ok(())
 }
 

@@ -1,11 +1,10 @@
 -- The confirmation in the code's terms: the connections held before and after.
-use Rattle.std.specs.Prelude.{◌≡◌, ℕ, Bool, true, false, IsTrue, List}
-use Rattle.std.specs.Prelude.{Result, Ok, Err}
+use Rattle.std.specs.Prelude.{◌≡◌, ℕ, Bool, true, false, IsTrue, List, Result, Ok, Err}
 use Rattle.conntrack.specs.declared.connection.ConnId.{ConnId}
 use Rattle.conntrack.specs.declared.connection.Flags.{Flags}
 use Rattle.conntrack.specs.declared.connection.ConntrackEntry.{ConntrackEntry}
 use Rattle.conntrack.specs.declared.belonging.Belonging.{Belonging}
-use Rattle.conntrack.specs.declared.belonging.Belonging.TheVariants.{NotFound, Found}
+use Rattle.conntrack.specs.declared.belonging.Belonging.TheVariants.{Found}
 use Rattle.conntrack.specs.ConntrackEntry.{is_taken}
 use Rattle.conntrack.specs.TableEntries.{has_id, touched_at}
 use Rattle.conntrack.specs.Updates.{Confirmation, Unconfirmed, Confirmed, with_begun}
@@ -17,36 +16,32 @@ use Rattle.stepping.specs.Paths.{PathState}
 use Rattle.stepping.specs.Confirmations.{confirmation_by, confirmed}
 use Rattle.stepping.specs.steps.Steps.{step_result}
 
--- what a packet in this state belongs to; nothing without a look-up
-abbrev pub belonging_in : CtInfo → List ConntrackEntry → List ℕ → Belonging
-belonging_in Untracked held p = NotFound
-belonging_in _ held p = belonging_of held p
+-- the entry that a look-up found, else another one
+abbrev pub entry_of : ConnId → Belonging → ConnId
+entry_of other (Found found) = found.id
+entry_of other _ = other
 
--- its connection is held
-abbrev pub IsHeld : Belonging → List ConntrackEntry → Type 0
-IsHeld (Found found) held = IsTrue (has_id found.id held)
-IsHeld _ held = Unit {0}
+-- the entry of a packet in this state
+abbrev pub entry_in : ConnId → CtInfo → List ConntrackEntry → List ℕ → ConnId
+entry_in other Untracked held p = other
+entry_in other _ held p = entry_of other (belonging_of held p)
 
-abbrev pub CanConfirm : Belonging → CtInfo → List ConntrackEntry → Type 0
-CanConfirm b (Tracked connection) held = IsHeld b held
-CanConfirm b (New new_connection) held = is_taken new_connection.original held ≡ false
-CanConfirm b _ held = Unit {0}
+-- its connection is held, or the tuple of the one that it begins is free
+abbrev pub CanConfirm : ConnId → CtInfo → List ConntrackEntry → Type 0
+CanConfirm entry (Tracked connection) held = IsTrue (has_id entry held)
+CanConfirm entry (New new_connection) held = is_taken new_connection.original held ≡ false
+CanConfirm entry _ held = Unit {0}
 
 -- ---- the connections held after it
 
--- with its connection refreshed
-abbrev pub touched_for : Belonging → Flags → ℕ → ℕ → List ConntrackEntry → List ConntrackEntry
-touched_for (Found found) flags mark now held = touched_at found.id found.direction flags mark now held
-touched_for _ flags mark now held = held
-
--- after the confirmation of a packet with this state and these flags; a new connection gets this id
-abbrev pub confirmed_in : ConnId → Flags → ℕ → Belonging → CtInfo → Confirmation → List ConntrackEntry
+-- after the confirmation of a packet with this state, entry and flags; a new connection gets this id
+abbrev pub confirmed_in : ConnId → Flags → ℕ → ConnId → CtInfo → Confirmation → List ConntrackEntry
     → List ConntrackEntry
-confirmed_in id flags now b (Tracked connection) (Confirmed mark reply source dest) held =
-    touched_for b flags mark now held
-confirmed_in id flags now b (New new_connection) confirmation held =
+confirmed_in id flags now entry (Tracked connection) (Confirmed mark reply source dest) held =
+    touched_at entry connection.direction flags mark now held
+confirmed_in id flags now entry (New new_connection) confirmation held =
     with_begun id (record { tuple = new_connection.original; flags = flags; moment = now }) confirmation held
-confirmed_in id flags now b info confirmation held = held
+confirmed_in id flags now entry info confirmation held = held
 
 -- ---- the answer
 
@@ -65,9 +60,9 @@ begins (New new_connection) (Confirmed mark reply source dest) = true
 begins _ _ = false
 
 -- the answer and the connections held are those of the step, whatever else is known of the packet
-pub record Confirms (now : ℕ) (flags : Flags) (b : Belonging) (info : CtInfo) (mark : ℕ)
+pub record Confirms (now : ℕ) (flags : Flags) (entry : ConnId) (info : CtInfo) (mark : ℕ)
     (old new : List ConntrackEntry) (answer : Result Bool Cause) : Type 0 where
   pub id : ConnId
   pub step : (s : PathState) → step_result answer s ≡ confirmed old info s
-  pub held : new ≡ confirmed_in id flags now b info (confirmation_in answer info mark) old
+  pub held : new ≡ confirmed_in id flags now entry info (confirmation_in answer info mark) old
   pub begun : begun_in answer ≡ begins info (confirmation_in answer info mark)

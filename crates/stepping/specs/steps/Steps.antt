@@ -39,7 +39,7 @@ pub record Spends (before after : EventsAndTicks) (cost : ℕ) : Type 0 where
 -- ---- steps with NAT
 
 -- a packet took a step, whichever list it is that represents the mappings held: its state fits the list then
--- if it did before, it is of the same connection, and at most so many events and statements came
+-- if it did before, it is of the same connection and entry, and at most so many events and statements came
 pub record TakesStep (taken : List Mapping → Step) (mappings : List Mapping) (cost : ℕ)
     (old : PacketState) (before : EventsAndTicks) (new : PacketState) (after : EventsAndTicks)
     (answer : Result (Unit {0}) Cause) : Type 0 where
@@ -47,6 +47,7 @@ pub record TakesStep (taken : List Mapping → Step) (mappings : List Mapping) (
       → taken held (path_state old before) (step_result answer (path_state new after))
   pub fits : (held : List Mapping) → HoldsSame held mappings → Fits old.info held → Fits new.info held
   pub same : untranslated new.info ≡ untranslated old.info
+  pub entry : new.entry ≡ old.entry
   pub spent : Spends before after cost
 
 -- ---- costs of the hooks

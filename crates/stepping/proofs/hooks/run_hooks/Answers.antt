@@ -19,7 +19,7 @@ returns-in_err-route c =
     rw (q.1, q.2) (record {
       took = went_on c.in_ok-prerouting.ensures.took
           (at_cost (unspent _ _)
-          (stopped {a = 0} 0 (of_step (λ held. route.step c.prerouting.new.events) route.info (unspent _ 0))));
+          (stopped {a = 0} 0 (of_step (λ held. route.step c.prerouting.new.events) route.info route.entry (unspent _ 0))));
     })
 
 pub returns-in-None : goal.returns-in-None
@@ -29,8 +29,14 @@ returns-in-None c =
     let spent = spent_both _ _ run.spent (unspent _ _) in
     record {
       took = went_on c.in_ok-prerouting.ensures.took (at_cost spent (went_on
-          {a = 0} (of_step (λ held. route.step c.prerouting.new.events) route.info (unspent _ 0))
-          (record { step = λ held same. at_output _ held _ _ _ c.in-None.is (run.step held same); fits = run.fits; same = run.same; spent = spent })));
+          {a = 0} (of_step (λ held. route.step c.prerouting.new.events) route.info route.entry (unspent _ 0))
+          (record {
+            step = λ held same. at_output _ held _ _ _ c.in-None.is (run.step held same);
+            fits = run.fits;
+            same = run.same;
+            entry = run.entry;
+            spent = spent;
+          })));
     }
 
 pub returns-in-Some : goal.returns-in-Some
@@ -39,6 +45,12 @@ returns-in-Some c =
     let t = c.forward_and_postrouting.ensures.took in
     record {
       took = went_on c.in_ok-prerouting.ensures.took (at_cost t.spent (went_on
-          {a = 0} (of_step (λ held. route.step c.prerouting.new.events) route.info (unspent _ 0))
-          (record { step = λ held same. at_output _ held _ _ _ c.in-Some.is (t.step held same); fits = t.fits; same = t.same; spent = t.spent })));
+          {a = 0} (of_step (λ held. route.step c.prerouting.new.events) route.info route.entry (unspent _ 0))
+          (record {
+            step = λ held same. at_output _ held _ _ _ c.in-Some.is (t.step held same);
+            fits = t.fits;
+            same = t.same;
+            entry = t.entry;
+            spent = t.spent;
+          })));
     }

@@ -1,6 +1,6 @@
-use Rattle.stepping.proofs.Names.{[], CtInfo, None, Some, Untracked, ap, arith, error_belonging, inner_tuple_of, path_state, refl, sym, untranslated, with_info}
+use Rattle.stepping.proofs.Names.{[], CtInfo, None, Some, ap, arith, error_belonging, inner_tuple_of, path_state, refl, sym, with_info}
 use Rattle.stepping.proofs.Names.{◌∙◌}
-use Rattle.stepping.proofs.Processing.{error_kept, found, idle_open, still_open}
+use Rattle.stepping.proofs.Processing.{error_kept, found, still_open}
 use Rattle.stepping.proofs.lookup.look_up.Goals as goal
 
 pub returns-in-Notrack : goal.returns-in-Notrack
@@ -8,12 +8,12 @@ returns-in-Notrack g c =
     let is = c.set_info.ensures in
     record {
       step = λ events. rw c.in-Notrack.is (is.state events);
-      belonging = rw is.info refl;
+      entry = rw (is.info, is.entry) refl;
       held = rw is.info refl;
       limits = refl;
       later = c.requires.later;
       room = c.requires.room;
-      confirmable = λ after same. idle_open Untracked after _ refl (same ∙ ap untranslated is.info);
+      confirmable = rw is.info tt;
       fits = rw is.info tt;
     }
 
@@ -22,38 +22,37 @@ returns-in_default-tuple g c =
     let set = c.set_info-in_default-tuple in
     let b = error_belonging c.args.connections.now.held (inner_tuple_of c.args.view.now.packet.now) in
     let is = set.ensures.info ∙ c.error_ct_info.ensures in
-    let known = found c.args.view.now.packet.now c.args.connections.now.held c.args.state.now.facts.ct set.new.self.info None
+    let known = found c.args.state.now.entry c.args.view.now.packet.now c.args.connections.now.held c.args.state.now.facts.ct set.new.self.info None
     c.in_default.not-Notrack (sym c.tuple.ensures ∙ c.in_default-tuple.is) is in
     record {
       step = λ events. set.ensures.state events ∙ ap (λ (i : CtInfo). with_info i (path_state c.args.state.now events))
           (sym set.ensures.info ∙ known.0);
-      belonging = known.1;
+      entry = set.ensures.entry ∙ known.1;
       held = known.2;
       limits = refl;
       later = c.requires.later;
       room = c.requires.room;
-      confirmable = λ after same. idle_open _ after _ (error_kept b []).0 (same ∙ ap untranslated is);
-      fits = rw is (error_kept b _).1;
+      confirmable = rw is (error_kept _ b _ []).1;
+      fits = rw is (error_kept c.args.state.now.entry b [] _).2;
     }
 
 pub returns : goal.returns
 returns g c =
     let look = c.look_up-belonging in
-    let set = c.set_info-2 in
+    let set = c.set_belonging in
     let some = sym c.tuple.ensures ∙ c.in-Some.is in
     let flags = c.requires.flags in
-    let is = set.ensures.info ∙ c.of.ensures in
-    let known = found c.args.view.now.packet.now c.args.connections.now.held c.args.state.now.facts.ct set.new.self.info
+    let is = set.ensures.info in
+    let known = found c.args.state.now.entry c.args.view.now.packet.now c.args.connections.now.held c.args.state.now.facts.ct set.new.self.info
     (Some c.in-Some.tuple) c.in_default.not-Notrack some (grind (arith, is, some, flags, look.ensures.belonging)) in
     record {
       step = λ events. set.ensures.state events ∙ ap (λ (i : CtInfo). with_info i (path_state c.args.state.now events))
           (sym set.ensures.info ∙ known.0);
-      belonging = grind (arith, look.ensures.belonging, flags, known);
+      entry = grind (arith, set.ensures.entry, look.ensures.belonging, flags, known);
       held = grind (arith, look.ensures.held, flags, known);
       limits = look.ensures.limits;
       later = look.ensures.later;
       room = look.ensures.room c.requires.room;
-      confirmable = λ after same. still_open c.in-Some.tuple look.result look.new.self.held after look.ensures.confirmable (same
-          ∙ ap untranslated is);
+      confirmable = rw (set.ensures.entry, is) (still_open c.in-Some.tuple look.result look.new.self.held _ look.ensures.confirmable);
       fits = rw is look.ensures.fits;
     }

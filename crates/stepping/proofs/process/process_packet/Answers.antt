@@ -11,13 +11,13 @@ returns-in_err-run-clause-path g c =
 pub returns-in_err-run-clause-follows : goal.returns-in_err-run-clause-follows
 returns-in_err-run-clause-follows g c =
     let q = err_from_is_err_and c.from_residual.result c.from_residual.ensures.1 in
-    rw (q.1, q.2) (dropped_follows _ _ _ Notrack _ _ _
+    rw (q.1, q.2) (dropped_follows (record { 0 = 0 }) _ _ _ Notrack _ _ _
     ((c.in_err-run.ensures.took []).same ∙ ap untranslated c.requires.not_looked_up) refl)
 
 pub returns-in_err-run_hooks-clause-path : goal.returns-in_err-run_hooks-clause-path
 returns-in_err-run_hooks-clause-path g c =
     let q = err_from_is_err_and c.from_residual-in_err-run_hooks.result c.from_residual-in_err-run_hooks.ensures.1 in
-    let look = c.look_up-belonging in
+    let look = c.look_up in
     let hooks = rw look.ensures.held at (c.in_err-run_hooks.ensures.took.step _ c.mappings.ensures) in
     rw (q.1, q.2) (goes_on _ _ ((c.in_ok-run.ensures.took []).step [] (λ m. refl)) (goes_on (path_state look.new.state c.run.new.events) _
     (ap Continue (look.ensures.step c.run.new.events)) (stops _ _ hooks)))
@@ -25,15 +25,15 @@ returns-in_err-run_hooks-clause-path g c =
 pub returns-in_err-run_hooks-clause-follows : goal.returns-in_err-run_hooks-clause-follows
 returns-in_err-run_hooks-clause-follows g c =
     let q = err_from_is_err_and c.from_residual-in_err-run_hooks.result c.from_residual-in_err-run_hooks.ensures.1 in
-    let look = c.look_up-belonging in
+    let look = c.look_up in
     let info = ap (λ (s : PathState). s.info) (look.ensures.step c.run.new.events) in
-    rw (q.1, q.2) (dropped_follows _ _ _ c.run.new.state.facts.ct _ _ _
+    rw (q.1, q.2) (dropped_follows (record { 0 = 0 }) _ _ _ c.run.new.state.facts.ct _ _ _
     (c.in_err-run_hooks.ensures.took.same ∙ ap untranslated info)
     (look.ensures.held ∙ ap (λ (i : CtInfo). others_beside i c.args.connections.now.held c.args.view.now.packet.now) info))
 
 pub returns-clause-path : goal.returns-clause-path
 returns-clause-path g c =
-    let look = c.look_up-belonging in
+    let look = c.look_up in
     let hooks = rw look.ensures.held at (c.in_ok-run_hooks.ensures.took.step _ c.mappings.ensures) in
     let confirms = rw look.ensures.held at c.confirm.ensures.confirms in
     goes_on _ _ ((c.in_ok-run.ensures.took []).step [] (λ m. refl)) (goes_on (path_state look.new.state c.run.new.events) _
@@ -41,13 +41,13 @@ returns-clause-path g c =
 
 pub returns-clause-follows : goal.returns-clause-follows
 returns-clause-follows g c =
-    let look = c.look_up-belonging in
+    let look = c.look_up in
     let p = c.args.view.now.packet.now in
     let old = c.args.connections.now.held in
     let ct = c.run.new.state.facts.ct in
     let info : look.new.state.info ≡ looked_up_info ct old p =
     ap (λ (s : PathState). s.info) (look.ensures.step c.run.new.events) in
     let flags = c.flags_in-flags.ensures ∙ ap flags_in c.requires.transport in
-    confirmed_follows p old c.args.now ct _ c.confirm.result (path_state c.run_hooks.new.state c.run_hooks.new.events)
+    confirmed_follows c.run.new.state.entry p old c.args.now ct _ c.confirm.result (path_state c.run_hooks.new.state c.run_hooks.new.events)
     (c.in_ok-run_hooks.ensures.took.same ∙ ap untranslated info)
-    (rw (flags, look.ensures.belonging, look.ensures.held, info) at c.confirm.ensures.confirms)
+    (rw (flags, c.in_ok-run_hooks.ensures.took.entry, look.ensures.entry, look.ensures.held, info) at c.confirm.ensures.confirms)

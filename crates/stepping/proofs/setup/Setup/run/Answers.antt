@@ -12,10 +12,10 @@ continues v s (inr of) = rw of.1 refl
 
 pub returns-in-Dropped-clause-took : goal.returns-in-Dropped-clause-took
 returns-in-Dropped-clause-took c = λ mappings.
-    of_step (λ held. record { end = _; ran = c.run.ensures.end; is = rw c.in-Dropped.is refl }) refl (search)
+    of_step (λ held. record { end = _; ran = c.run.ensures.end; is = rw c.in-Dropped.is refl }) refl refl (search)
 
 pub returns-in-Accepted : goal.returns-in-Accepted
 returns-in-Accepted c = record {
-  took = λ mappings. of_step (λ held. record { end = _; ran = c.run.ensures.end; is = continues _ _ c.in-Accepted.is }) refl (search);
+  took = λ mappings. of_step (λ held. record { end = _; ran = c.run.ensures.end; is = continues _ _ c.in-Accepted.is }) refl refl (search);
   spent = search;
 }
