@@ -23,8 +23,8 @@ pub use Rattle.conntrack.specs.declared.connection.Aged.{Aged}
 pub use Rattle.conntrack.specs.declared.connection.ConnId.{ConnId}
 pub use Rattle.conntrack.specs.declared.connection.Connection.{Connection}
 pub use Rattle.conntrack.specs.declared.connection.ConntrackEntry.{ConntrackEntry}
-pub use Rattle.conntrack.specs.declared.connection.Direction.{Direction}
-pub use Rattle.conntrack.specs.declared.connection.Direction.TheVariants.{Reply}
+pub use Rattle.ip_headers.specs.declared.tuple.Direction.{Direction}
+pub use Rattle.ip_headers.specs.declared.tuple.Direction.TheVariants.{Reply}
 pub use Rattle.conntrack.specs.declared.connection.Flags.{Flags}
 pub use Rattle.futures.proofs.LinkLemmas.{IsIn-without, IsOn, IsRing-kept, IsRing-push, IsRing-skip, free_not_on, next_on, prev_end_on, prev_on, rings_apart}
 pub use Rattle.futures.proofs.LinkLemmas.{without_absent, without_head}

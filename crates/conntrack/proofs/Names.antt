@@ -18,8 +18,8 @@ pub use Rattle.conntrack.specs.declared.belonging.ConnectionRef.{ConnectionRef}
 pub use Rattle.conntrack.specs.declared.connection.ConnId.{ConnId}
 pub use Rattle.conntrack.specs.declared.connection.Connection.{Connection}
 pub use Rattle.conntrack.specs.declared.connection.ConntrackEntry.{ConntrackEntry}
-pub use Rattle.conntrack.specs.declared.connection.Direction.{Direction}
-pub use Rattle.conntrack.specs.declared.connection.Direction.TheVariants.{Original, Reply}
+pub use Rattle.ip_headers.specs.declared.tuple.Direction.{Direction}
+pub use Rattle.ip_headers.specs.declared.tuple.Direction.TheVariants.{Original, Reply}
 pub use Rattle.conntrack.specs.declared.connection.Flags.{Flags}
 pub use Rattle.conntrack.specs.steps.Entries.{has_ids_below, has_tuple}
 pub use Rattle.ip_headers.specs.Same.{same_tuple}

@@ -6,7 +6,7 @@ use Rattle.std.specs.Option.{option_map}
 use Rattle.conntrack.specs.declared.connection.Aged.{Aged}
 use Rattle.conntrack.specs.declared.connection.ConnId.{ConnId}
 use Rattle.conntrack.specs.declared.connection.Connection.{Connection}
-use Rattle.conntrack.specs.declared.connection.Direction.{Direction}
+use Rattle.ip_headers.specs.declared.tuple.Direction.{Direction}
 use Rattle.conntrack.specs.declared.connection.Flags.{Flags}
 use Rattle.conntrack.specs.declared.connection.ConntrackEntry.{ConntrackEntry}
 use Rattle.box_file.specs.declared.limits.Limits.{Limits}

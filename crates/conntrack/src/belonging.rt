@@ -2,8 +2,8 @@
 ghost use Rattle.std.specs.Prelude.{◌≡◌};
 ghost use Rattle.conntrack.specs.ConntrackEntry.{connection_ref};
 
-use crate::connection::{ConnId, ConntrackEntry, Direction};
-use ip_headers::Tuple;
+use crate::connection::{ConnId, ConntrackEntry};
+use ip_headers::{Direction, Tuple};
 
 /// A conntrack entry that a lookup found, as it was before the packet, and the packet's direction.
 #[derive(Clone, Copy)]

@@ -6,7 +6,7 @@ ghost use Rattle.conntrack.specs.TableEntries.{aged_of, begun_with, touched};
 
 use crate::limits::limit_by;
 use box_file::Limits;
-use ip_headers::{Mapping, Tuple};
+use ip_headers::{Direction, Mapping, Tuple};
 
 /// Nanoseconds since 1970-01-01 00:00 UTC.
 pub type Moment = u64;
@@ -22,15 +22,6 @@ pub struct Flags {
     pub fin: bool,
     /// The sender resets the connection.
     pub rst: bool,
-}
-
-/// The directions of a connection (netfilter's IP_CT_DIR_ORIGINAL and IP_CT_DIR_REPLY).
-#[derive(Clone, Copy, PartialEq, Eq)]
-pub enum Direction {
-    /// The direction of the first packet.
-    Original,
-    /// The other direction.
-    Reply,
 }
 
 /// The phase of a TCP connection, by the flags seen (own, after RFC 9293, sections 3.5 and 3.6). It

@@ -3,7 +3,7 @@ ghost use Rattle.std.specs.Prelude.{◌≡◌, ◌-◌, ◌∷◌, [], Some, fal
 ghost use Rattle.ip_headers.specs.Tuple.{inverse};
 ghost use Rattle.ip_headers.specs.declared.tuple.Kind.TheVariants as kinds;
 ghost use Rattle.conntrack.specs.declared.belonging.Belonging.TheVariants as belongings;
-ghost use Rattle.conntrack.specs.declared.connection.Direction.TheVariants as directions;
+ghost use Rattle.ip_headers.specs.declared.tuple.Direction.TheVariants as directions;
 ghost use Rattle.conntrack.specs.declared.connection.Phase.TheVariants as phases;
 ghost use Rattle.conntrack.specs.Phases.{no_flags, seconds};
 ghost use Rattle.box_file.specs.Idle.{usual_limits};

@@ -11,7 +11,8 @@ mod list_tracker;
 mod tracker;
 
 pub use belonging::{Belonging, ConnectionRef};
-pub use connection::{Aged, ConnId, Connection, ConntrackEntry, Direction, Flags, Moment, Phase};
+pub use connection::{Aged, ConnId, Connection, ConntrackEntry, Flags, Moment, Phase};
+pub use ip_headers::Direction;
 pub use limits::{idle_kind, limit_by, limit_in};
 pub use list_tracker::ListTracker;
 pub use std::alloc::AllocError as Memory;

@@ -12,10 +12,10 @@ ghost use Rattle.conntrack.specs.ConntrackEntry.{same_id, without};
 ghost use Rattle.conntrack.specs.TableEntries.{touched, touched_at};
 
 use crate::belonging::{Belonging, ConnectionRef};
-use crate::connection::{Aged, ConnId, Connection, ConntrackEntry, Direction, Flags, Moment};
+use crate::connection::{Aged, ConnId, Connection, ConntrackEntry, Flags, Moment};
 use crate::tracker::{BeginError, MAX_CONNECTIONS, Tracker};
 use box_file::Limits;
-use ip_headers::Tuple;
+use ip_headers::{Direction, Tuple};
 use std::alloc::{AllocError as Memory, Global};
 use std::hash::RandomState;
 use step_count::Steps;

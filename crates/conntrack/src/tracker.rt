@@ -11,9 +11,9 @@ ghost use Rattle.conntrack.specs.ConntrackEntry.{without};
 ghost use Rattle.conntrack.specs.Histories.{TrackedPacket, RepresentsAt, belongs};
 
 use crate::belonging::Belonging;
-use crate::connection::{Aged, ConnId, Connection, Direction, Flags, Moment};
+use crate::connection::{Aged, ConnId, Connection, Flags, Moment};
 use box_file::Limits;
-use ip_headers::Tuple;
+use ip_headers::{Direction, Tuple};
 use std::alloc::{AllocError as Memory, Global};
 use std::hash::RandomState;
 use step_count::{Steps, start};

@@ -12,5 +12,5 @@ mod view;
 pub use parts::PartsMut;
 pub use sum::ones_sum;
 pub use transport::Transport;
-pub use tuple::{Endpoint, Kind, Mapping, Tuple};
+pub use tuple::{Direction, Endpoint, Kind, Mapping, Tuple};
 pub use view::{HeaderFault, View};

@@ -47,6 +47,15 @@ pub struct Tuple {
     pub destination: Endpoint,
 }
 
+/// The directions of a connection (netfilter's IP_CT_DIR_ORIGINAL and IP_CT_DIR_REPLY).
+#[derive(Clone, Copy, PartialEq, Eq)]
+pub enum Direction {
+    /// The direction of the first packet.
+    Original,
+    /// The other direction.
+    Reply,
+}
+
 /// A NAT mapping: an internal endpoint and the external one that translation puts in its place (RFC
 /// 4787, section 4.1).
 #[derive(Clone, Copy, PartialEq, Eq)]

@@ -16,8 +16,8 @@ use Rattle.rule_meaning.specs.declared.facts.CtFacts.TheVariants as ct
 use Rattle.rule_meaning.specs.declared.facts.ConnectionFacts.{ConnectionFacts}
 use Rattle.rule_meaning.specs.declared.facts.CtState.{CtState}
 use Rattle.rule_meaning.specs.declared.facts.CtState.TheVariants as states
-use Rattle.rule_meaning.specs.declared.facts.CtDirection.{CtDirection}
-use Rattle.rule_meaning.specs.declared.facts.CtDirection.TheVariants as directions
+use Rattle.ip_headers.specs.declared.tuple.Direction.{Direction}
+use Rattle.ip_headers.specs.declared.tuple.Direction.TheVariants as directions
 
 -- ---- ports: no value for other protocols
 
@@ -51,7 +51,7 @@ ct_state ct.Invalid = Some STATE_INVALID
 ct_state (ct.Known c) = Some (state_bit c.state)
 ct_state _ = None
 
-abbrev pub direction_number : CtDirection → ℕ
+abbrev pub direction_number : Direction → ℕ
 direction_number directions.Original = 0
 direction_number directions.Reply = 1
 

@@ -1,5 +1,5 @@
 //! What rules can read of a packet.
-use ip_headers::Transport;
+use ip_headers::{Direction, Transport};
 
 /// Everything that rules can read of a packet.
 #[derive(Clone, Copy)]
@@ -58,7 +58,7 @@ pub enum CtFacts {
 #[derive(Clone, Copy)]
 pub struct ConnectionFacts {
     pub state: CtState,
-    pub direction: CtDirection,
+    pub direction: Direction,
     /// The connection's mark.
     pub mark: u32,
     /// A packet in reply direction has been seen (IPS_SEEN_REPLY).
@@ -78,12 +78,4 @@ pub enum CtState {
     Related,
     /// The packet creates the connection, or there was no reply yet.
     New,
-}
-
-/// The direction of a packet within its connection.
-#[derive(Clone, Copy)]
-pub enum CtDirection {
-    /// That of the connection's first packet.
-    Original,
-    Reply,
 }

@@ -12,7 +12,7 @@ pub use event::{
     ChainNo, ChainResult, Event, HookVerdict, NatAction, PortInterval, RuleVerdict,
     StatementPosition,
 };
-pub use facts::{ConnectionFacts, CtDirection, CtFacts, CtState, Facts, Interface, Packet};
+pub use facts::{ConnectionFacts, CtFacts, CtState, Facts, Interface, Packet};
 pub use laws::{
     accept_ends_chain, counters_count, drop_ends_hook, empty_chain_jump, hook_result_unique,
     match_needs_value, run_unique, run_unique_for,

@@ -26,7 +26,7 @@ use Rattle.box_file.specs.Idle.{usual_limits}
 use Rattle.rule_meaning.specs.declared.facts.ConnectionFacts.{ConnectionFacts}
 use Rattle.rule_meaning.specs.declared.facts.CtState.{CtState}
 use Rattle.rule_meaning.specs.declared.facts.CtState.TheVariants as states
-use Rattle.rule_meaning.specs.declared.facts.CtDirection.TheVariants as directions
+use Rattle.ip_headers.specs.declared.tuple.Direction.TheVariants as directions
 
 -- an address by its octets
 abbrev pub ip : ℕ → ℕ → ℕ → ℕ → ℕ

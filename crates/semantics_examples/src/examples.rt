@@ -18,7 +18,7 @@ ghost use Rattle.rule_meaning.specs.declared.event.RuleVerdict.TheVariants as ru
 ghost use Rattle.rule_meaning.specs.declared.event.Event.TheVariants as events;
 ghost use Rattle.rule_meaning.specs.declared.event.NatAction.TheVariants as nat_actions;
 ghost use Rattle.rule_meaning.specs.declared.facts.CtState.TheVariants as states;
-ghost use Rattle.rule_meaning.specs.declared.facts.CtDirection.TheVariants as directions;
+ghost use Rattle.ip_headers.specs.declared.tuple.Direction.TheVariants as directions;
 ghost use Rattle.rule_meaning.specs.declared.facts.CtFacts.TheVariants as ct;
 ghost use Rattle.rule_meaning.specs.declared.stage.HookStage.TheVariants as stages;
 ghost use Rattle.rule_meaning.specs.Hooks.{Stage};

@@ -12,16 +12,14 @@ use Rattle.rewrite.specs.Endpoints.{between}
 use Rattle.conntrack.specs.declared.belonging.Belonging.{Belonging}
 use Rattle.conntrack.specs.declared.belonging.Belonging.TheVariants.{Found}
 use Rattle.conntrack.specs.declared.belonging.ConnectionRef.{ConnectionRef}
-use Rattle.conntrack.specs.declared.connection.Direction.{Direction}
-use Rattle.conntrack.specs.declared.connection.Direction.TheVariants as sides
+use Rattle.ip_headers.specs.declared.tuple.Direction.{Direction}
+use Rattle.ip_headers.specs.declared.tuple.Direction.TheVariants as directions
 use Rattle.conntrack.specs.ConntrackEntry.{is_reply, may_begin}
 use Rattle.rule_meaning.specs.declared.facts.Facts.{Facts}
 use Rattle.rule_meaning.specs.declared.facts.Packet.{Packet}
 use Rattle.rule_meaning.specs.declared.facts.ConnectionFacts.{ConnectionFacts}
 use Rattle.rule_meaning.specs.declared.facts.CtState.{CtState}
 use Rattle.rule_meaning.specs.declared.facts.CtState.TheVariants as states
-use Rattle.rule_meaning.specs.declared.facts.CtDirection as facts_direction
-use Rattle.rule_meaning.specs.declared.facts.CtDirection.TheVariants as directions
 use Rattle.rule_meaning.specs.declared.facts.CtFacts.{CtFacts}
 use Rattle.rule_meaning.specs.declared.facts.CtFacts.TheVariants.{Known}
 use Rattle.rule_meaning.specs.declared.facts.CtFacts.TheVariants as ct_facts
@@ -34,16 +32,16 @@ use Rattle.translation.specs.declared.ct_info.CtInfo.TheVariants.{Tracked, Relat
 
 -- the tuple of a direction's packets as received
 abbrev pub incoming_by : Direction → Tuple → Tuple → Tuple
-incoming_by sides.Original original reply = original
-incoming_by sides.Reply original reply = reply
+incoming_by directions.Original original reply = original
+incoming_by directions.Reply original reply = reply
 
 abbrev pub incoming : TrackedConnection → Tuple
 incoming connection = incoming_by connection.direction connection.original connection.reply
 
 -- their tuple after NAT: the inverse of the other direction's as received
 abbrev pub outgoing_by : Direction → Tuple → Tuple → Tuple
-outgoing_by sides.Original original reply = inverse reply
-outgoing_by sides.Reply original reply = inverse original
+outgoing_by directions.Original original reply = inverse reply
+outgoing_by directions.Reply original reply = inverse original
 
 abbrev pub outgoing : TrackedConnection → Tuple
 outgoing connection = outgoing_by connection.direction connection.original connection.reply
@@ -82,10 +80,6 @@ untranslated info = info
 
 -- ---- what rules read of its connection (nft(8), CONNTRACK EXPRESSIONS)
 
-abbrev pub direction_of : Direction → facts_direction.CtDirection
-direction_of sides.Original = directions.Original
-direction_of sides.Reply = directions.Reply
-
 -- the packet is a reply, or one was seen before
 abbrev pub is_reply_seen : TrackedConnection → Bool
 is_reply_seen connection = is_reply connection.direction || connection.replied
@@ -95,7 +89,7 @@ is_reply_seen connection = is_reply connection.direction || connection.replied
 abbrev pub known_ct_facts : CtState → Bool → TrackedConnection → CtFacts
 known_ct_facts state seen_reply connection = Known (record {
   state = state;
-  direction = direction_of connection.direction;
+  direction = connection.direction;
   mark = connection.mark;
   seen_reply = seen_reply;
   source_translated = not (same_endpoint (inverse connection.reply).source connection.original.source);

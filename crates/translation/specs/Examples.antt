@@ -5,7 +5,7 @@ use Rattle.ip_headers.specs.declared.tuple.Tuple.{Tuple}
 use Rattle.conntrack.specs.declared.connection.Flags.{Flags}
 use Rattle.conntrack.specs.Histories.{TrackedPacket, belongs}
 use Rattle.rule_meaning.specs.declared.facts.CtState.{CtState}
-use Rattle.rule_meaning.specs.declared.facts.CtDirection.{CtDirection}
+use Rattle.ip_headers.specs.declared.tuple.Direction.{Direction}
 use Rattle.rule_meaning.specs.declared.facts.CtFacts.{CtFacts}
 use Rattle.rule_meaning.specs.declared.facts.CtFacts.TheVariants.{Known}
 use Rattle.translation.specs.CtInfos.{ct_facts_of, ct_info_by}
@@ -15,7 +15,7 @@ abbrev pub facts_read : List TrackedPacket → ℕ → Tuple → Flags → CtFac
 facts_read history now t flags = ct_facts_of (ct_info_by t (belongs usual_limits history now t flags))
 
 -- of a connection without NAT and with mark 0
-abbrev pub facts_untranslated : CtState → CtDirection → Bool → CtFacts
+abbrev pub facts_untranslated : CtState → Direction → Bool → CtFacts
 facts_untranslated state direction seen_reply = Known (record {
   state = state;
   direction = direction;

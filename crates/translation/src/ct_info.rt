@@ -2,7 +2,7 @@
 ghost use Rattle.std.specs.Prelude.{◌≡◌, if◌then◌else◌};
 ghost use Rattle.rule_meaning.specs.declared.facts.CtState.TheVariants as states;
 ghost use Rattle.translation.specs.declared.ct_info.CtInfo.TheVariants.{New};
-ghost use Rattle.translation.specs.CtInfos.{direction_of, new_connection_of, with_nat_status, error_ct_info};
+ghost use Rattle.translation.specs.CtInfos.{new_connection_of, with_nat_status, error_ct_info};
 ghost use Rattle.translation.specs.CtInfos.{incoming, known_ct_facts, tracked_connection, outgoing, ct_facts_of};
 ghost use Rattle.translation.specs.CtInfos.{ct_info_by};
 
@@ -191,7 +191,7 @@ fn known_ct_facts(state: CtState, seen_reply: bool, connection: &TrackedConnecti
     let original = connection.original;
     CtFacts::Known(ConnectionFacts {
         state,
-        direction: direction_of(connection.direction),
+        direction: connection.direction,
         mark: connection.mark,
         seen_reply,
         source_translated: leaving.source != original.source,
@@ -216,20 +216,10 @@ fn new_ct_facts(new_connection: &NewConnection) -> CtFacts
 {
     CtFacts::Known(new_connection.with_nat_status(ConnectionFacts {
         state: CtState::New,
-        direction: rule_meaning::CtDirection::Original,
+        direction: Direction::Original,
         mark: 0,
         seen_reply: false,
         source_translated: false,
         destination_translated: false,
     }))
-}
-
-/// `ct direction`.
-fn direction_of(direction: Direction) -> rule_meaning::CtDirection
-    ensures { result ≡ direction_of direction }
-{
-    match direction {
-        Direction::Original => rule_meaning::CtDirection::Original,
-        Direction::Reply => rule_meaning::CtDirection::Reply,
-    }
 }

@@ -5,7 +5,7 @@ ghost use Rattle.ip_headers.specs.declared.tuple.Kind.TheVariants as kinds;
 ghost use Rattle.conntrack.specs.Phases.{no_flags, seconds};
 ghost use Rattle.conntrack.specs.Examples.{begins, dns_query, from_a, opened, queried, refused, syn};
 ghost use Rattle.conntrack.specs.Examples.{syn_ack, web};
-ghost use Rattle.rule_meaning.specs.declared.facts.CtDirection.TheVariants as directions;
+ghost use Rattle.ip_headers.specs.declared.tuple.Direction.TheVariants as directions;
 ghost use Rattle.rule_meaning.specs.declared.facts.CtFacts.TheVariants as ct_facts;
 ghost use Rattle.rule_meaning.specs.declared.facts.CtState.TheVariants as states;
 ghost use Rattle.translation.specs.Examples.{facts_read, facts_untranslated};

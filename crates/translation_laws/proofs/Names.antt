@@ -12,8 +12,8 @@ pub use Rattle.conntrack.specs.declared.belonging.Belonging.TheVariants.{Ends, F
 pub use Rattle.conntrack.specs.declared.belonging.ConnectionRef.{ConnectionRef}
 pub use Rattle.conntrack.specs.declared.connection.ConnId.{ConnId}
 pub use Rattle.conntrack.specs.declared.connection.ConntrackEntry.{ConntrackEntry}
-pub use Rattle.conntrack.specs.declared.connection.Direction.{Direction}
-pub use Rattle.conntrack.specs.declared.connection.Direction.TheVariants.{Original, Reply}
+pub use Rattle.ip_headers.specs.declared.tuple.Direction.{Direction}
+pub use Rattle.ip_headers.specs.declared.tuple.Direction.TheVariants.{Original, Reply}
 pub use Rattle.conntrack.specs.declared.connection.Flags.{Flags}
 pub use Rattle.history.specs.History.{Entry, moment_of, tracked_of}
 pub use Rattle.history.specs.Setup.{Setup, limits_of}

@@ -12,8 +12,8 @@ use Rattle.ip_headers.specs.Tuple.{inverse, tuple_of}
 use Rattle.conntrack.specs.declared.belonging.Belonging.{Belonging}
 use Rattle.conntrack.specs.declared.belonging.Belonging.TheVariants.{Ends, Found}
 use Rattle.conntrack.specs.declared.connection.Connection.{Connection}
-use Rattle.conntrack.specs.declared.connection.Direction.{Direction}
-use Rattle.conntrack.specs.declared.connection.Direction.TheVariants.{Original, Reply}
+use Rattle.ip_headers.specs.declared.tuple.Direction.{Direction}
+use Rattle.ip_headers.specs.declared.tuple.Direction.TheVariants.{Original, Reply}
 use Rattle.conntrack.specs.declared.connection.Flags.{Flags}
 use Rattle.conntrack.specs.declared.connection.ConntrackEntry.{ConntrackEntry}
 use Rattle.conntrack.specs.Phases.{is_closing, is_lone_syn}

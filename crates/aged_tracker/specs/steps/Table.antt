@@ -17,8 +17,8 @@ use Rattle.conntrack.specs.declared.belonging.Belonging.{Belonging}
 use Rattle.conntrack.specs.declared.belonging.Belonging.TheVariants.{Found, NotFound}
 use Rattle.conntrack.specs.declared.connection.Connection.{Connection}
 use Rattle.conntrack.specs.declared.connection.ConntrackEntry.{ConntrackEntry}
-use Rattle.conntrack.specs.declared.connection.Direction.{Direction}
-use Rattle.conntrack.specs.declared.connection.Direction.TheVariants.{Reply}
+use Rattle.ip_headers.specs.declared.tuple.Direction.{Direction}
+use Rattle.ip_headers.specs.declared.tuple.Direction.TheVariants.{Reply}
 use Rattle.conntrack.specs.declared.connection.Flags.{Flags}
 use Rattle.conntrack.specs.declared.connection.Phase.{Phase}
 use Rattle.futures.specs.LinkedLists.{without}

@@ -4,7 +4,7 @@ use Rattle.std.specs.List.{list_all}
 use Rattle.ip_headers.specs.declared.tuple.Tuple.{Tuple}
 use Rattle.ip_headers.specs.Same.{same_tuple}
 use Rattle.conntrack.specs.declared.connection.ConntrackEntry.{ConntrackEntry}
-use Rattle.conntrack.specs.declared.connection.Direction.{Direction}
+use Rattle.ip_headers.specs.declared.tuple.Direction.{Direction}
 use Rattle.conntrack.specs.declared.list_tracker.Sought.{Sought}
 use Rattle.conntrack.specs.declared.list_tracker.Sought.TheVariants.{Live, Expired, Id, Incoming}
 use Rattle.conntrack.specs.ConntrackEntry.{is_incoming, is_live, is_original, same_id}
