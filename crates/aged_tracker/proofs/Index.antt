@@ -1,11 +1,11 @@
 -- Searches in the list of entries, and the index of an `AgedTracker`.
-use Rattle.aged_tracker.proofs.Names.{AgedSlots, Belonging, Bool, ConnId, ConntrackEntry, Direction, Flags, Found, IsAllLive, IsIndexed, IsTable, Limits, List}
-use Rattle.aged_tracker.proofs.Names.{None, NotFound, Option, Reply, Some, Tuple, [], and_parts, ap, apart-filter, apart-push, apart-touched_at, arith}
-use Rattle.aged_tracker.proofs.Names.{belonging_by, belonging_of, belongs_in, cases_Bool, common_steps, cond, connection_ref, cons_held, distinct-filter}
+use Rattle.aged_tracker.proofs.Names.{AgedSlots, Belonging, Bool, ConnId, ConntrackEntry, Direction, Flags, IsAllLive, IsIndexed, IsTable, Limits, List}
+use Rattle.aged_tracker.proofs.Names.{None, NotFound, Option, Original, Reply, Some, Tuple, [], and_parts, ap, apart-filter, apart-push, apart-touched_at, arith}
+use Rattle.aged_tracker.proofs.Names.{belonging_as, belonging_at, belonging_by, belonging_in, belongs_in, cases_Bool, common_steps, cond, cons_held, distinct-filter}
 use Rattle.aged_tracker.proofs.Names.{distinct-push, distinct-touched_at, entry_at, eq-eqb, eqb-true, false, filter, find, find-filter, found_by_id}
-use Rattle.aged_tracker.proofs.Names.{has_distinct_ids, has_id, have_disjoint_tuples, held_by, holds, if◌then◌else◌, inl, inr, is_incoming, is_live, is_some}
+use Rattle.aged_tracker.proofs.Names.{has_distinct_ids, has_id, have_disjoint_tuples, held_by, if◌then◌else◌, inl, inr, is_incoming, is_live, is_some}
 use Rattle.aged_tracker.proofs.Names.{is_taken, key_in, length, length-append, length-map, list_any, live_at, map, nat_tests, not, not-true, option_cases}
-use Rattle.aged_tracker.proofs.Names.{option_map, or_cases, or_parts, refl, rules, same_id, same_tuple, same_tuple-true, serial_at, slots_of, some_of_map, sym}
+use Rattle.aged_tracker.proofs.Names.{option_map, or_cases, or_parts, refl, rules, same_Some, same_id, same_tuple, same_tuple-true, serial_at, slots_of, some_of_map, sym}
 use Rattle.aged_tracker.proofs.Names.{touched, touched_at, true, without_new, ℕ, ◌&&◌, ◌++◌, ◌+◌, ◌-◌, ◌||◌, ◌∙◌, ◌∷◌, ◌≡◌}
 use Rattle.aged_tracker.proofs.Lists.{named_at}
 use Rattle.aged_tracker.proofs.Order.{all_pass, at_slot, found_from, of_slot}
@@ -177,28 +177,23 @@ module _ (held : List ConntrackEntry) (at : Tuple → Option ℕ) (live : ℕ) (
 -- ---- lookups
 
 chosen : (flags : Flags) (h : ConntrackEntry) (l o r : Bool) → (o || r) ≡ true
-    → (if not l then NotFound else (if o then belonging_by flags (Some h) None else Found (connection_ref h Reply)))
-    ≡ belonging_by flags (cond (l && o) (Some h) None) (cond (l && r) (Some h) None)
+    → option_map (λ d. if l then belonging_as flags h d else NotFound) (if o then Some Original else (if r then Some Reply else None))
+    ≡ Some (belonging_by flags (cond (l && o) (Some h) None) (cond (l && r) (Some h) None))
 chosen flags h l o r e = grind arith
 
 and_or : (l o r : Bool) → ((l && o) ≡ ((l && o) && (o || r))) × ((l && r) ≡ ((l && r) && (o || r)))
 and_or l o r = (grind arith, grind arith)
 
 module _ (limits : Limits) (now : ℕ) (tuple : Tuple) (flags : Flags) (held : List ConntrackEntry) where
-  abbrev pub lookup : Option ConntrackEntry → Belonging
-  lookup None = NotFound
-  lookup (Some h) = belonging_of limits now tuple flags h
-
   abbrev original : ConntrackEntry → Bool
   original x = is_live limits now x && same_tuple x.original tuple
 
   abbrev reply : ConntrackEntry → Bool
   reply x = is_live limits now x && same_tuple x.reply tuple
 
-  looked_up : (o : Option ConntrackEntry) → find (is_incoming tuple) held ≡ o → lookup o ≡ belonging_by flags (kept_if original o) (kept_if reply o)
-  looked_up None is = refl
-  looked_up (Some h) is =
-      chosen flags h (is_live limits now h) (same_tuple h.original tuple) (same_tuple h.reply tuple) (found_passes (is_incoming tuple) held h is)
+  -- the lookup result of the entry with the tuple, if there is one
+  abbrev looked_up : Option ConntrackEntry → Belonging
+  looked_up o = belonging_by flags (kept_if original o) (kept_if reply o)
 
   -- a test that only incoming tuples pass
   found_by : (f : ConntrackEntry → Bool) → ((x : ConntrackEntry) → f x ≡ (f x && is_incoming tuple x)) → have_disjoint_tuples held ≡ true
@@ -206,13 +201,24 @@ module _ (limits : Limits) (now : ℕ) (tuple : Tuple) (flags : Flags) (held : L
   found_by f its apart o is = grind (arith, its, find_both (is_incoming tuple) f held (once_by_tuple tuple held apart))
 
   pub belongs_by : have_disjoint_tuples held ≡ true → (o : Option ConntrackEntry) → find (is_incoming tuple) held ≡ o
-      → lookup o ≡ belongs_in (live_at limits now held) tuple flags
+      → looked_up o ≡ belongs_in (live_at limits now held) tuple flags
   belongs_by apart o is =
       let alike = λ (x : ConntrackEntry). and_or (is_live limits now x) (same_tuple x.original tuple) (same_tuple x.reply tuple) in
       rw (
         find-filter (λ h. same_tuple h.original tuple) (is_live limits now) held ∙ found_by original (λ x. (alike x).0) apart o is,
         find-filter (λ h. same_tuple h.reply tuple) (is_live limits now) held ∙ found_by reply (λ x. (alike x).1) apart o is,
-      ) (looked_up o is)
+      ) refl
+
+  pub belongs_some : have_disjoint_tuples held ≡ true → (h : ConntrackEntry) → find (is_incoming tuple) held ≡ Some h
+      → belonging_at limits now tuple flags (Some h) ≡ Some (belongs_in (live_at limits now held) tuple flags)
+  belongs_some apart h is =
+      chosen flags h (is_live limits now h) (same_tuple h.original tuple) (same_tuple h.reply tuple) (found_passes (is_incoming tuple) held h is)
+      ∙ ap Some (belongs_by apart (Some h) is)
+
+-- an entry that gives a lookup result has the tuple
+its_own : (f : Direction → Belonging) (o r : Bool) (b : Belonging)
+    → option_map f (if o then Some Original else (if r then Some Reply else None)) ≡ Some b → (o || r) ≡ true
+its_own f o r b e = grind arith
 
 -- ---- the entries of a table by their ids and tuples
 
@@ -238,12 +244,30 @@ module _ (t : AgedSlots) (table : IsTable t) where
       let slot = ap (slots_of t) (sym h.2) ∙ sym (found_at h.0.id) ∙ found_by_id (is_incoming tuple) (held_by t) h.0 is.distinct h.1 in
       (h.0, (h.1, slot))
 
-  pub holder : (at : Tuple → Option ℕ) (live : ℕ) → IsIndexed (held_by t) at live → (tuple : Tuple) (key : ℕ)
-      → holds tuple (slots_of t key) ≡ true → at tuple ≡ Some key
-  holder at live is tuple key its =
-      let id : ConnId = record { 0 = key } in
-      let found = found_too (is_incoming tuple) (same_id id) (held_by t) (once_by_tuple _ _ is.apart) (once_by_id _ _ is.distinct) in
-      grind (arith, option_cases (slots_of t key), found_at id, found, is.keyed tuple, named_at t.slots key)
+  module _ (at : Tuple → Option ℕ) (live : ℕ) (is : IsIndexed (held_by t) at live) (limits : Limits) (now : ℕ) (tuple : Tuple) (flags : Flags) (key : ℕ) where
+    -- the lookup result of the entry in a slot is that of the table, if it has the tuple
+    pub belongs_at : (b : Belonging) → belonging_at limits now tuple flags (slots_of t key) ≡ Some b
+        → b ≡ belongs_in (live_at limits now (held_by t)) tuple flags
+    belongs_at b = by (slots_of t key) refl
+      where
+        id : ConnId
+        id = record { 0 = key }
+
+        by : (o : Option ConntrackEntry) → slots_of t key ≡ o → belonging_at limits now tuple flags o ≡ Some b
+            → b ≡ belongs_in (live_at limits now (held_by t)) tuple flags
+        by None none e = cc
+        by (Some h) at_key e =
+            let its = its_own (belonging_in limits now flags h) (same_tuple h.original tuple) (same_tuple h.reply tuple) b e in
+            let found = found_too (is_incoming tuple) (same_id id) (held_by t) (once_by_tuple _ _ is.apart) (once_by_id _ _ is.distinct) h
+            (found_at id ∙ at_key) its in
+            same_Some b _ (sym e ∙ belongs_some limits now tuple flags (held_by t) is.apart h found)
+
+    -- the entry in the slot of a tuple has it
+    pub belongs_indexed : at tuple ≡ Some key
+        → belonging_at limits now tuple flags (slots_of t key) ≡ Some (belongs_in (live_at limits now (held_by t)) tuple flags)
+    belongs_indexed found =
+        let it = owner at live is tuple key found in
+        ap (belonging_at limits now tuple flags) it.1.1 ∙ belongs_some limits now tuple flags (held_by t) is.apart it.0 it.1.0
 
 -- ---- the test of two tuples that `Tuple` derives
 

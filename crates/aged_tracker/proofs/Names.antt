@@ -5,9 +5,9 @@ pub use Rattle.aged_tracker.specs.declared.slot.Link.{Link}
 pub use Rattle.aged_tracker.specs.declared.slot.Neighbour.TheVariants.{Next, Previous}
 pub use Rattle.aged_tracker.specs.declared.slot.Slot.{Slot}
 pub use Rattle.aged_tracker.specs.steps.Table.{AreOldest, AreOldestBut, HasRings, IsAllLive, IsIndexed, IsLiveQueue, IsNode, IsNumbered, IsRing, IsRings}
-pub use Rattle.aged_tracker.specs.steps.Table.{IsRising, IsTable, Lists, MAX_KEYS, Relinks, Relists, SameBy, Sets, belonging_of, connections_by, cons_held}
+pub use Rattle.aged_tracker.specs.steps.Table.{IsRising, IsTable, Lists, MAX_KEYS, Relinks, Relists, SameBy, Sets, belonging_as, belonging_at, belonging_in, connections_by, cons_held}
 pub use Rattle.aged_tracker.specs.steps.Table.{entry_at, entry_below, except_links, held_at, held_by, held_from, held_of, is_first, key_in, last_at, last_by}
-pub use Rattle.aged_tracker.specs.steps.Table.{holds, limit_at, link_at, link_by, neighbour, next_of, number, numbered_entry, off, owner_by, owner_of, prev_of}
+pub use Rattle.aged_tracker.specs.steps.Table.{limit_at, link_at, link_by, neighbour, next_of, number, numbered_entry, off, owner_by, owner_of, prev_of}
 pub use Rattle.aged_tracker.specs.steps.Table.{pushed, queue_by, queue_of, serial_at, serial_by, slots_of, updated}
 pub use Rattle.box_file.specs.declared.limits.Limits.{Limits}
 pub use Rattle.conntrack.proofs.Ids.{apart-filter, apart-push, apart-touched_at, distinct-filter, distinct-push, distinct-touched_at, found_by_id}
@@ -24,7 +24,7 @@ pub use Rattle.conntrack.specs.declared.connection.ConnId.{ConnId}
 pub use Rattle.conntrack.specs.declared.connection.Connection.{Connection}
 pub use Rattle.conntrack.specs.declared.connection.ConntrackEntry.{ConntrackEntry}
 pub use Rattle.ip_headers.specs.declared.tuple.Direction.{Direction}
-pub use Rattle.ip_headers.specs.declared.tuple.Direction.TheVariants.{Reply}
+pub use Rattle.ip_headers.specs.declared.tuple.Direction.TheVariants.{Original, Reply}
 pub use Rattle.conntrack.specs.declared.connection.Flags.{Flags}
 pub use Rattle.futures.proofs.LinkLemmas.{IsIn-without, IsOn, IsRing-kept, IsRing-push, IsRing-skip, free_not_on, next_on, prev_end_on, prev_on, rings_apart}
 pub use Rattle.futures.proofs.LinkLemmas.{without_absent, without_head}

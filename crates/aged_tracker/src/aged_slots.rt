@@ -4,10 +4,11 @@ ghost use Rattle.slab.specs.Slab.{get, Updates};
 ghost use Rattle.conntrack.specs.ConntrackEntry.{connection_of, is_live, without};
 ghost use Rattle.conntrack.specs.TableEntries.{begun_with, touched_at, IsNoneLater, IsWithin};
 ghost use Rattle.aged_tracker.specs.steps.Table.{AreOldest, AreOldestBut, HasRings, IsAllLive, IsLiveQueue, IsOwned, IsRings, IsTable, Lists, MAX_KEYS};
-ghost use Rattle.aged_tracker.specs.steps.Table.{Relists, SameBy, SameSize, Slots as SlotsName, belonging_of, except_links, has_room, held_at, held_by, holds};
-ghost use Rattle.aged_tracker.specs.steps.Table.{last_at, limit_at, off, owner_of, prev_of, pushed, queue_by, slots_of};
+ghost use Rattle.aged_tracker.specs.steps.Table.{Relists, SameBy, SameSize, Slots as SlotsName, belonging_at, except_links, has_room, held_at, held_by};
+ghost use Rattle.aged_tracker.specs.steps.Table.{last_at, limit_at, off, owner_of, prev_of, pushed, queue_by, slots_of, tuple_of};
 
 use crate::linked_lists::{empty_heads, front, is_first, is_last, push_back, unlink};
+use crate::packed::PackedTuple;
 use crate::slot::{LISTS, Link, MAX_KEYS, Slot, idle_at, queue_by};
 use crate::slots::Slots;
 use box_file::Limits;
@@ -15,7 +16,6 @@ use conntrack::{
     Belonging, ConnId, Connection, ConntrackEntry, Direction, Flags, Memory, Moment, Steps,
     limit_in,
 };
-use ip_headers::Tuple;
 use std::alloc::Global;
 
 /// The slots, which are numbered in the order of their creation, and a queue for each timeout. In
@@ -141,36 +141,24 @@ impl AgedSlots {
         }
     }
 
-    /// Whether a slot has an entry with this incoming tuple.
-    pub fn holds(&self, key: usize, tuple: Tuple, steps: &mut Steps) -> bool
-        ensures holds { result ≡ holds tuple (slots_of self.now key) }
-        ensures steps { IsWithin (Some 1) steps.old steps.new }
-    {
-        match self.slots.get(key, steps) {
-            Some(slot) => slot.is_incoming(tuple),
-            None => false,
-        }
-    }
-
-    /// The lookup result of a packet whose tuple is an incoming tuple of the entry in a slot.
+    /// The lookup result of a packet, if a slot has an entry with its tuple as an incoming one.
+    #[inline(always)]
     pub fn belonging(
         &self,
         key: usize,
         limits: Limits,
-        tuple: Tuple,
+        tuple: PackedTuple,
         flags: Flags,
         now: Moment,
         steps: &mut Steps,
-    ) -> Belonging
-        requires { IsSome (slots_of self.now key) }
-        ensures belonging { IfSome (slots_of self.now key)
-            (λ h. result ≡ belonging_of limits now tuple flags h) }
+    ) -> Option<Belonging>
+        ensures belonging { result
+            ≡ belonging_at limits now (tuple_of tuple) flags (slots_of self.now key) }
         ensures steps { IsWithin (Some 1) steps.old steps.new }
     {
-        match self.slots.get(key, steps) {
-            Some(slot) => slot.belonging(key, limits, tuple, flags, now),
-            None => unreachable!(),
-        }
+        let slot = self.slots.get(key, steps)?;
+        let direction = slot.direction_of(tuple)?;
+        Some(slot.belonging(key, limits, direction, flags, now))
     }
 
     /// Updates an entry for one more packet and moves it to the end of its queue. Returns the slot

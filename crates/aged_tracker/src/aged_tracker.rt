@@ -1,13 +1,11 @@
 //! A conntrack table whose calls count few visited slots.
-ghost use Rattle.std.specs.Prelude.{◌≡◌, ◌+◌, ◌<◌, ◌≤◌, ℕ, [], IsTrue, Some, None, cond, false, is_some};
-ghost use Rattle.aged_tracker.specs.steps.Table.{IsConsistent};
+ghost use Rattle.std.specs.Prelude.{◌≡◌, [], IsTrue, Some, false};
 ghost use Rattle.conntrack.specs.ConntrackEntry.{belongs_in};
 ghost use Rattle.conntrack.specs.TableEntries.{IsWithin, has_distinct_ids, have_disjoint_tuples, live_at};
-ghost use Rattle.std.specs.HashMap.{get, spare};
-ghost use Rattle.ip_headers.specs.Same.{same_tuple};
-ghost use Rattle.ip_headers.specs.declared.tuple.Tuple.{Tuple as Tupled};
 
 use crate::aged_slots::AgedSlots;
+use crate::packed::PackedTuple;
+use crate::tuple_index::TupleIndex;
 use box_file::Limits;
 use conntrack::laws::independent_of_ids;
 use conntrack::{
@@ -16,41 +14,40 @@ use conntrack::{
 };
 use ip_headers::Tuple;
 use std::alloc::Global;
-use std::collections::HashMap;
 use std::hash::RandomState;
 use std::marker::Model;
 use word_hash::WordState;
 
 /// Keeps entries in slots that are found by an index of their incoming tuples and expire by queues.
-/// A call counts at most 7 visited slots, however many entries there are.
+/// A call counts at most 7 visits of slots and of the index, however many entries there are.
 #[derive(Drop)]
 pub struct AgedTracker {
     slots: AgedSlots,
-    // The slot of each incoming tuple. Keys are 32 bits wide, as each entry has two here.
-    keys: HashMap<Tuple, u32, WordState>,
+    index: TupleIndex,
     live: usize,
     limits: Limits,
     // Where the next packet's entry likely is: connections that send at one pace have their packets in
     // the order of the round before. A read of the index is a cache miss where many are live.
     likely: usize,
+    // Whether that was so of the last packet that had an entry: packets in no such order don't pay for
+    // guesses.
+    was_likely: bool,
 }
 
 impl Model for AgedTracker {
     ghost use Rattle.std.specs.Prelude.{◌&&◌, nat_lt};
-    ghost use Rattle.std.specs.HashMap.{get, spare};
-    ghost use Rattle.ip_headers.specs.Same.{same_tuple};
     ghost use Rattle.aged_tracker.specs.View.{TrackerView};
-    ghost use Rattle.aged_tracker.specs.steps.Table.{IsConsistent, has_room, held_by};
+    ghost use Rattle.aged_tracker.specs.steps.Table.{IsConsistent, has_room, held_by, room_in, slot_in};
 
     ghost Value = { TrackerView };
 
     ghost view = { λ t. record {
       limits = t.limits;
       held = held_by t.slots;
-      room = has_room t.slots && nat_lt 1 (spare t.keys);
+      room = has_room t.slots && nat_lt 1 (room_in t.index);
     } };
 
-    ghost invariant = { λ t. IsConsistent t.slots (get same_tuple t.keys) t.live };
+    ghost invariant = { λ t. IsConsistent t.slots (slot_in t.index) t.live };
 }
 
 impl AgedTracker {
@@ -62,10 +59,11 @@ impl AgedTracker {
     {
         AgedTracker {
             slots: AgedSlots::new(alloc),
-            keys: HashMap::with_hasher(alloc, keys),
+            index: TupleIndex::new(alloc, keys),
             live: 0,
             limits: idle,
             likely: 0,
+            was_likely: false,
         }
     }
 
@@ -75,13 +73,24 @@ impl AgedTracker {
             ≡ belongs_in (live_at self.now.limits now self.now.held) tuple flags }
         ensures distinct { IsTrue (has_distinct_ids self.now.held) }
         ensures apart { IsTrue (have_disjoint_tuples self.now.held) }
-        ensures steps { IsWithin (Some 2) steps.old steps.new }
+        ensures steps { IsWithin (Some 3) steps.old steps.new }
     {
-        match slot_of(&self.slots, &self.keys, self.likely, tuple, steps) {
+        let packed = PackedTuple::of_tuple(tuple);
+        if self.was_likely {
+            let guessed = self
+                .slots
+                .belonging(self.likely, self.limits, packed, flags, now, steps);
+            if let Some(belonging) = guessed {
+                return belonging;
+            }
+        }
+        match self.index.get(tuple, steps) {
             None => Belonging::NotFound,
+            // An entry with the tuple is there.
             Some(key) => self
                 .slots
-                .belonging(key, self.limits, tuple, flags, now, steps),
+                .belonging(key, self.limits, packed, flags, now, steps)
+                .unwrap_or(Belonging::NotFound),
         }
     }
 }
@@ -120,16 +129,13 @@ impl Tracker for AgedTracker {
         steps: &mut Steps,
     ) {
         let follower = self.slots.touch(id, direction, flags, mark, now, steps);
+        self.was_likely = id.0 == self.likely;
         self.likely = follower.unwrap_or(self.likely);
     }
 
     fn reserve_one(&mut self) -> Result<(), Memory> {
         self.slots.reserve_one()?;
-        let spare = self.keys.capacity() - self.keys.len();
-        if spare >= 2 {
-            return Ok(());
-        }
-        self.keys.reserve(2)
+        self.index.reserve_two()
     }
 
     fn begin(
@@ -141,21 +147,21 @@ impl Tracker for AgedTracker {
         if self.live >= MAX_CONNECTIONS {
             return Err(BeginError::Full);
         }
-        if key_of(&self.keys, connection.reply).is_some() {
+        if self.index.get(connection.reply, steps).is_some() {
             return Err(BeginError::Clash);
         }
         let id = self.slots.insert(connection, flags, steps);
         let key = id.0 as u32;
-        insert_tuple(&mut self.keys, connection.original, key);
-        insert_tuple(&mut self.keys, connection.reply, key);
+        self.index.insert(connection.original, key, steps);
+        self.index.insert(connection.reply, key, steps);
         self.live += 1;
         Ok(id)
     }
 
     fn end(&mut self, id: ConnId, steps: &mut Steps) -> Aged {
         let held = self.slots.remove(id, steps);
-        remove_tuple(&mut self.keys, held.original);
-        remove_tuple(&mut self.keys, held.reply);
+        self.index.remove(held.original, steps);
+        self.index.remove(held.reply, steps);
         self.live -= 1;
         held.aged()
     }
@@ -174,53 +180,4 @@ impl Tracker for AgedTracker {
     fn list_counted(&self, alloc: Global, steps: &mut Steps) -> Result<Vec<Connection>, Memory> {
         self.slots.list(alloc, steps)
     }
-}
-
-/// Adds a tuple to the index.
-fn insert_tuple(keys: &mut HashMap<Tuple, u32, WordState>, tuple: Tuple, key: u32)
-    requires { 0 < spare keys.old }
-    ensures keys { (q : Tupled) → get same_tuple keys.new q
-        ≡ cond (same_tuple tuple q) (Some key) (get same_tuple keys.old q) }
-    ensures spare { spare keys.old ≤ spare keys.new + 1 }
-{
-    match keys.insert(tuple, key) {
-        Ok(_) => (),
-        Err(_) => unreachable!(),
-    }
-}
-
-/// Removes a tuple from the index.
-fn remove_tuple(keys: &mut HashMap<Tuple, u32, WordState>, tuple: Tuple)
-    ensures keys { (q : Tupled) → get same_tuple keys.new q
-        ≡ cond (same_tuple tuple q) None (get same_tuple keys.old q) }
-    ensures spare { spare keys.old ≤ spare keys.new }
-{
-    keys.remove(&tuple);
-}
-
-/// The slot of a tuple's entry, by the index unless it is the likely one.
-#[inline(always)]
-fn slot_of(
-    slots: &AgedSlots,
-    keys: &HashMap<Tuple, u32, WordState>,
-    likely: usize,
-    tuple: Tuple,
-    steps: &mut Steps,
-) -> Option<usize>
-    requires { (live : ℕ) × IsConsistent slots.now (get same_tuple keys.now) live }
-    ensures slot { result ≡ get same_tuple keys.now tuple }
-    ensures steps { IsWithin (Some 1) steps.old steps.new }
-{
-    if slots.holds(likely, tuple, steps) {
-        return Some(likely);
-    }
-    key_of(keys, tuple)
-}
-
-/// The slot of a tuple in the index.
-#[inline(always)]
-fn key_of(keys: &HashMap<Tuple, u32, WordState>, tuple: Tuple) -> Option<usize>
-    ensures { result ≡ get same_tuple keys.now tuple }
-{
-    keys.get(&tuple).map(|key| *key as usize)
 }

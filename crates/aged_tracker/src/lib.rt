@@ -8,5 +8,6 @@ mod linked_lists;
 mod packed;
 mod slot;
 mod slots;
+mod tuple_index;
 
 pub use aged_tracker::AgedTracker;

@@ -1,6 +1,6 @@
 //! Tuples and mappings packed to 14 bytes (no padding).
 ghost use Rattle.std.specs.Prelude.{◌≡◌, option_map};
-ghost use Rattle.ip_headers.specs.Same.{same_tuple};
+ghost use Rattle.ip_headers.specs.Same.{same_endpoint, same_tuple};
 ghost use Rattle.aged_tracker.specs.steps.Table.{endpoint_of, mapping_of, tuple_of};
 
 use ip_headers::{Endpoint, Kind, Mapping, Tuple};
@@ -34,6 +34,12 @@ impl PackedEndpoint {
             high: (endpoint.address / 65536) as u16,
             port: endpoint.port,
         }
+    }
+
+    fn is_same(self, other: Self) -> bool
+        ensures { result ≡ same_endpoint (endpoint_of self) (endpoint_of other) }
+    {
+        self.low == other.low && self.high == other.high && self.port == other.port
     }
 
     fn endpoint(self) -> Endpoint
@@ -76,6 +82,15 @@ impl PackedTuple {
         }
     }
 
+    /// Whether it is the same tuple.
+    pub fn is_same(self, other: Self) -> bool
+        ensures { result ≡ same_tuple (tuple_of self) (tuple_of other) }
+    {
+        self.first.is_same(other.first)
+            && self.second.is_same(other.second)
+            && self.kind == other.kind
+    }
+
     /// Packs a mapping, if there is one.
     pub fn of_mapping(mapping: Option<Mapping>) -> Option<Self>
         ensures { option_map mapping_of result ≡ mapping }
@@ -103,11 +118,4 @@ impl PackedTuple {
             None => None,
         }
     }
-}
-
-/// Whether two tuples are equal.
-pub fn is_same(one: Tuple, other: Tuple) -> bool
-    ensures { result ≡ same_tuple one other }
-{
-    one == other
 }

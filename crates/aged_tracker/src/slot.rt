@@ -1,16 +1,16 @@
 //! A slot of a table, with its links.
 ghost use Rattle.std.specs.Prelude.{◌≡◌, ◌+◌, ◌<◌, ℕ, None, IfSome, IfNone};
 ghost use Rattle.conntrack.specs.Phases.{is_closing, phase_by};
-ghost use Rattle.conntrack.specs.ConntrackEntry.{connection_ref, is_incoming, is_live};
-ghost use Rattle.aged_tracker.specs.steps.Table.{MAX_KEYS, belonging_of, held_of, idle_at, number, queue_by, queue_in, touched_slot, tuple_of, with_neighbour};
+ghost use Rattle.conntrack.specs.ConntrackEntry.{connection_ref, is_live};
+ghost use Rattle.aged_tracker.specs.steps.Table.{MAX_KEYS, belonging_in, direction_in, held_of, idle_at, number, queue_by, queue_in, touched_slot, tuple_of, with_neighbour};
 
-use crate::packed::{PackedTuple, is_same};
+use crate::packed::PackedTuple;
 use box_file::{IdleKind, Limits};
 use conntrack::{
     Belonging, ConnId, ConnectionRef, ConntrackEntry, Direction, Flags, Moment, Phase, idle_kind,
     limit_by,
 };
-use ip_headers::{Kind, Tuple};
+use ip_headers::Kind;
 use std::mem::size_of;
 
 /// How many queues there are: one for each timeout.
@@ -231,51 +231,54 @@ impl Slot {
         self.phase() == Phase::Closing
     }
 
-    /// The reference of a packet with this direction to the entry in the slot of this key, whose
-    /// original tuple this is.
-    fn connection_ref(&self, key: usize, direction: Direction, original: Tuple) -> ConnectionRef
-        requires { original ≡ tuple_of self.now.original }
+    /// The reference of a packet with this direction to the entry in the slot of this key.
+    fn connection_ref(&self, key: usize, direction: Direction) -> ConnectionRef
         ensures { result ≡ connection_ref (held_of key self.now) direction }
     {
         ConnectionRef {
             id: ConnId(key),
             direction,
-            original,
+            original: self.original.tuple(),
             reply: self.reply.tuple(),
             mark: self.mark,
             replied: self.replied,
         }
     }
 
-    /// Whether this is an incoming tuple of the entry.
-    pub fn is_incoming(&self, tuple: Tuple) -> bool
-        ensures { result ≡ is_incoming tuple (held_of 0 self.now) }
+    /// The direction of a packet with this tuple, if that is an incoming tuple of the entry.
+    #[inline(always)]
+    pub fn direction_of(&self, tuple: PackedTuple) -> Option<Direction>
+        ensures { result ≡ direction_in (tuple_of tuple) (held_of 0 self.now) }
     {
-        is_same(self.original.tuple(), tuple) || is_same(self.reply.tuple(), tuple)
+        if self.original.is_same(tuple) {
+            Some(Direction::Original)
+        } else if self.reply.is_same(tuple) {
+            Some(Direction::Reply)
+        } else {
+            None
+        }
     }
 
-    /// The lookup result of a packet whose tuple is an incoming tuple of the entry in the slot of
-    /// this key.
+    /// The lookup result of a packet with this direction that has the entry in the slot of this key.
+    #[inline(always)]
     pub fn belonging(
         &self,
         key: usize,
         limits: Limits,
-        tuple: Tuple,
+        direction: Direction,
         flags: Flags,
         now: Moment,
     ) -> Belonging
-        ensures { result ≡ belonging_of limits now tuple flags (held_of key self.now) }
+        ensures { result ≡ belonging_in limits now flags (held_of key self.now) direction }
     {
         if !self.is_live(limits, now) {
             return Belonging::NotFound;
         }
-        let original = self.original.tuple();
-        if !is_same(original, tuple) {
-            Belonging::Found(self.connection_ref(key, Direction::Reply, original))
-        } else if flags.is_lone_syn() && self.is_closing() {
-            Belonging::Ends(ConnId(key))
-        } else {
-            Belonging::Found(self.connection_ref(key, Direction::Original, original))
+        match direction {
+            Direction::Original if flags.is_lone_syn() && self.is_closing() => {
+                Belonging::Ends(ConnId(key))
+            }
+            _ => Belonging::Found(self.connection_ref(key, direction)),
         }
     }
 

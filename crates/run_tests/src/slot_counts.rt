@@ -1,5 +1,5 @@
-//! The slots that each call of an aged tracker visits: as many beside thousands of connections as
-//! beside few.
+//! What each call of an aged tracker visits, of slots and of its index: as many beside thousands of
+//! connections as beside few.
 ghost use Rattle.std.specs.Prelude.{◌≡◌, IfSome};
 ghost use Rattle.conntrack.specs.ConntrackEntry.{belongs_in};
 ghost use Rattle.conntrack.specs.TableEntries.{IsNoneLater};
@@ -35,7 +35,7 @@ fn query(port: u16) -> Tuple {
     }
 }
 
-/// Looks up a tuple, where no connection has expired, and tells the slots that this visited.
+/// Looks up a tuple, where no connection has expired, and tells how many visits that took.
 fn look(tracker: &mut AgedTracker, tuple: Tuple) -> Option<(Belonging, u64)>
     requires { IsNoneLater 0 tracker.old.held }
     ensures later { IsNoneLater 0 tracker.new.held }
@@ -51,7 +51,7 @@ fn look(tracker: &mut AgedTracker, tuple: Tuple) -> Option<(Belonging, u64)>
     Some((belonging, count_of(&steps)))
 }
 
-/// Begins the connection of a port: the slots that this visits, `None` where there is one.
+/// Begins the connection of a port: how many visits that takes, `None` where there is one.
 fn begin(tracker: &mut AgedTracker, port: u16) -> Option<u64>
     requires { IsNoneLater 0 tracker.old.held }
     ensures { IsNoneLater 0 tracker.new.held }
@@ -80,7 +80,7 @@ fn begin(tracker: &mut AgedTracker, port: u16) -> Option<u64>
     }
 }
 
-/// One more packet of the connection of a port: the slots that its lookup and its update visit.
+/// One more packet of the connection of a port: how many visits its lookup and its update take.
 fn touch(tracker: &mut AgedTracker, port: u16) -> Option<(u64, u64)>
     requires { IsNoneLater 0 tracker.old.held }
     ensures { IsNoneLater 0 tracker.new.held }
@@ -95,7 +95,7 @@ fn touch(tracker: &mut AgedTracker, port: u16) -> Option<(u64, u64)>
     Some((looked, count_of(&steps)))
 }
 
-/// Ends the connection of a port: the slots that this visits.
+/// Ends the connection of a port: how many visits that takes.
 fn end(tracker: &mut AgedTracker, port: u16) -> Option<u64>
     requires { IsNoneLater 0 tracker.old.held }
     ensures { IsNoneLater 0 tracker.new.held }
@@ -116,12 +116,15 @@ fn fill<R: Abort>(rt: &R, tracker: &mut AgedTracker, ports: u16)
     ensures { IsNoneLater 0 tracker.new.held }
 {
     for port in 0..ports {
-        let slots = begin(tracker, port);
-        assert!(rt; slots == Some(if port == 0 { 2 } else { 3 }), "port {port}");
+        let visits = begin(tracker, port);
+        assert!(rt;
+            visits == Some(if port == 0 { 5 } else { 6 }),
+            "port {port}"
+        );
     }
 }
 
-/// Removes a connection that has expired: whether there was one, and the slots that this visits.
+/// Removes a connection that has expired: whether there was one, and how many visits that takes.
 fn age(tracker: &mut AgedTracker, now: Moment) -> (bool, u64)
     requires { IsNoneLater 0 tracker.old.held }
     ensures { IsNoneLater 0 tracker.new.held }
@@ -142,10 +145,13 @@ fn visits_few<R: Abort>(rt: &R, mut tracker: AgedTracker, ports: u16)
     assert!(rt; touch(&mut tracker, 2) == Some((2, 7)));
     assert!(rt; touch(&mut tracker, 2) == Some((2, 1)));
     assert!(rt; touch(&mut tracker, 0) == Some((2, 6)));
-    assert!(rt; end(&mut tracker, 3) == Some(5));
+    assert!(rt; end(&mut tracker, 3) == Some(7));
     assert!(rt; end(&mut tracker, 3) == None);
+    // What was behind the last packet's entry in its queue is guessed once that was right.
+    assert!(rt; touch(&mut tracker, 1) == Some((2, 6)));
+    assert!(rt; touch(&mut tracker, 4) == Some((1, 6)));
     // The front has one neighbour.
-    assert!(rt; age(&mut tracker, LATER) == (true, 4));
+    assert!(rt; age(&mut tracker, LATER) == (true, 6));
 }
 
 #[test]

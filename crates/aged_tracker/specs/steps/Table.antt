@@ -8,17 +8,18 @@ use Rattle.aged_tracker.specs.declared.slot.Neighbour.{Neighbour}
 use Rattle.aged_tracker.specs.declared.slot.Neighbour.TheVariants.{Next, Previous}
 use Rattle.aged_tracker.specs.declared.slot.NodeIndex.{NodeIndex}
 use Rattle.aged_tracker.specs.declared.slot.Slot.{Slot}
+use Rattle.aged_tracker.specs.declared.tuple_index.TupleIndex.{TupleIndex}
 use Rattle.box_file.specs.declared.idle_line.IdleKind.{IdleKind}
 use Rattle.box_file.specs.declared.limits.Limits.{Limits}
-use Rattle.conntrack.specs.ConntrackEntry.{belonging_by, connection_of, connection_ref, is_incoming, is_live}
+use Rattle.conntrack.specs.ConntrackEntry.{belonging_by, connection_of, is_incoming, is_live}
 use Rattle.conntrack.specs.TableEntries.{has_distinct_ids, have_disjoint_tuples, touched}
 use Rattle.conntrack.specs.Phases.{idle_kind, limit_in, phase_by, phase_of}
 use Rattle.conntrack.specs.declared.belonging.Belonging.{Belonging}
-use Rattle.conntrack.specs.declared.belonging.Belonging.TheVariants.{Found, NotFound}
+use Rattle.conntrack.specs.declared.belonging.Belonging.TheVariants.{NotFound}
 use Rattle.conntrack.specs.declared.connection.Connection.{Connection}
 use Rattle.conntrack.specs.declared.connection.ConntrackEntry.{ConntrackEntry}
 use Rattle.ip_headers.specs.declared.tuple.Direction.{Direction}
-use Rattle.ip_headers.specs.declared.tuple.Direction.TheVariants.{Reply}
+use Rattle.ip_headers.specs.declared.tuple.Direction.TheVariants.{Original, Reply}
 use Rattle.conntrack.specs.declared.connection.Flags.{Flags}
 use Rattle.conntrack.specs.declared.connection.Phase.{Phase}
 use Rattle.futures.specs.LinkedLists.{without}
@@ -28,9 +29,11 @@ use Rattle.ip_headers.specs.declared.tuple.Kind.{Kind}
 use Rattle.ip_headers.specs.declared.tuple.Mapping.{Mapping}
 use Rattle.ip_headers.specs.declared.tuple.Tuple.{Tuple}
 use Rattle.slab.specs.Slab.{Slab, get, slab_len}
+use Rattle.std.specs.HashMap.{spare}
+use Rattle.std.specs.HashMap.{get as get_key}
 use Rattle.std.specs.List.{find}
 use Rattle.std.specs.List.Sorted.{IsNonDecreasingBy}
-use Rattle.std.specs.Prelude.{Bool, IsSome, List, None, Option, Some, [], false, if◌then◌else◌, length, map, nat_lt, not, option_map, slice_get}
+use Rattle.std.specs.Prelude.{Bool, IsSome, List, None, Option, Some, [], false, if◌then◌else◌, length, map, nat_lt, option_map, slice_get}
 use Rattle.std.specs.Prelude.{slice_index_or, suc, true}
 use Rattle.std.specs.Prelude.{zero, ℕ, ◌&&◌, ◌*◌, ◌++◌, ◌+◌, ◌-◌, ◌<◌, ◌==◌, ◌^◌, ◌∷◌, ◌≡◌, ◌≢◌, ◌≤◌}
 use Rattle.box_file.specs.declared.idle_line.IdleKind.TheVariants as idle
@@ -353,6 +356,13 @@ IsAllLive limits slots now =
 
 -- ---- the index from incoming tuples to slots
 
+abbrev pub slot_in : TupleIndex → Tuple → Option ℕ
+slot_in index = get_key same_tuple index.slots
+
+-- how many more tuples memory is reserved for
+abbrev pub room_in : TupleIndex → ℕ
+room_in index = spare index.slots
+
 -- the key of the first entry with an incoming tuple
 abbrev pub key_in : Tuple → List ConntrackEntry → Option ℕ
 key_in tuple held = option_map (λ (h : ConntrackEntry). h.id.0) (find (is_incoming tuple) held)
@@ -368,14 +378,23 @@ pub record IsConsistent (slots : AgedSlots) (at : Tuple → Option ℕ) (live : 
   pub table : IsTable slots
   pub indexed : IsIndexed (held_by slots) at live
 
--- whether a slot has an entry with this incoming tuple
-abbrev pub holds : Tuple → Option ConntrackEntry → Bool
-holds tuple None = false
-holds tuple (Some h) = is_incoming tuple h
+-- the direction of a packet, if its tuple is an incoming tuple of the entry
+abbrev pub direction_in : Tuple → ConntrackEntry → Option Direction
+direction_in tuple h =
+    if same_tuple h.original tuple then Some Original
+    else (if same_tuple h.reply tuple then Some Reply else None)
 
--- the lookup result of a packet whose tuple is an incoming tuple of the entry
-abbrev pub belonging_of : Limits → ℕ → Tuple → Flags → ConntrackEntry → Belonging
-belonging_of limits now tuple flags h =
-    if not (is_live limits now h) then NotFound
-    else (if same_tuple h.original tuple then belonging_by flags (Some h) None
-    else Found (connection_ref h Reply))
+abbrev pub belonging_as : Flags → ConntrackEntry → Direction → Belonging
+belonging_as flags h Original = belonging_by flags (Some h) None
+belonging_as flags h Reply = belonging_by flags None (Some h)
+
+-- the lookup result of a packet of the entry, by its direction
+abbrev pub belonging_in : Limits → ℕ → Flags → ConntrackEntry → Direction → Belonging
+belonging_in limits now flags h direction =
+    if is_live limits now h then belonging_as flags h direction else NotFound
+
+-- the lookup result of a packet, if its tuple is an incoming tuple of the entry in a slot
+abbrev pub belonging_at : Limits → ℕ → Tuple → Flags → Option ConntrackEntry → Option Belonging
+belonging_at limits now tuple flags None = None
+belonging_at limits now tuple flags (Some h) =
+    option_map (belonging_in limits now flags h) (direction_in tuple h)

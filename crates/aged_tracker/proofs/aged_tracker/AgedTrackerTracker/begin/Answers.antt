@@ -4,7 +4,7 @@ use Rattle.aged_tracker.proofs.aged_tracker.AgedTrackerTracker.begin.Goals.{Afte
 use Rattle.aged_tracker.proofs.aged_tracker.AgedTrackerTracker.begin.Goals as goal
 
 taken : (c : After-is_some) → is_taken c.args.connection.reply (held_by c.self.inside.slots) ≡ c.is_some.result
-taken c = taken_as _ _ _ c.self.invariant.indexed c.args.connection.reply ∙ sym (c.is_some.ensures ∙ ap is_some c.key_of.ensures)
+taken c = taken_as _ _ _ c.self.invariant.indexed c.args.connection.reply ∙ sym (c.is_some.ensures ∙ ap is_some c.get.ensures.slot)
 
 fresh : (c : After-insert-id) → has_id c.insert-id.result (held_by c.self.inside.slots) ≡ false
 fresh c = grind (arith, has_as, c.self.invariant.table, c.insert-id.ensures.free)
@@ -19,8 +19,8 @@ invariant_of-self c = record {
       (begun_with c.insert-id.result c.args.connection c.args.flags) (fresh (goal.at.invariant_of-self c).After-insert-id)
       (rw (← c.self.view_is) at c.requires.free)
       (taken (goal.at.invariant_of-self c).After-is_some ∙ c.if-is_some.false)
-      (λ q. c.insert_tuple-2.ensures.keys q ∙ ap (cond (same_tuple c.args.connection.reply q) (Some c.insert-id.result.0))
-      (c.insert_tuple.ensures.keys q)));
+      (λ q. c.insert-2.ensures.slots q ∙ ap (cond (same_tuple c.args.connection.reply q) (Some c.insert-id.result.0))
+      (c.insert.ensures.slots q)));
 }
 
 pub returns-clause-fresh : goal.returns-clause-fresh

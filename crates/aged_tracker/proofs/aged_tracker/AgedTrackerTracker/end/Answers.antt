@@ -10,7 +10,7 @@ invariant_of-self c = record {
   table = c.remove-held.ensures.table;
   indexed = rw c.remove-held.ensures.held (indexed_ended _ _ _ c.self.invariant.indexed _ c.args.id c.remove-held.result
       (found_at c.self.inside.slots c.self.invariant.table c.args.id ∙ c.remove-held.ensures.value)
-      (λ q. c.remove_tuple-2.ensures.keys q ∙ ap (cond (same_tuple c.remove-held.result.reply q) None) (c.remove_tuple.ensures.keys q)));
+      (λ q. c.remove-2.ensures.slots q ∙ ap (cond (same_tuple c.remove-held.result.reply q) None) (c.remove.ensures.slots q)));
 }
 
 pub returns-clause-aged : goal.returns-clause-aged

@@ -1,12 +1,8 @@
 use Rattle.aged_tracker.proofs.Names.{◌∙◌}
-use Rattle.aged_tracker.proofs.Index.{same_fun}
 use Rattle.aged_tracker.proofs.aged_tracker.AgedTrackerTracker.reserve_one.Goals as goal
 
 pub invariant_of-self : goal.invariant_of-self
 invariant_of-self c = record { table = c.reserve_one.ensures.table; indexed = rw c.reserve_one.ensures.held c.self.invariant.indexed }
-
-pub invariant_of-self-then-spare-ge2 : goal.invariant_of-self-then-spare-ge2
-invariant_of-self-then-spare-ge2 c = record { table = c.reserve_one.ensures.table; indexed = rw c.reserve_one.ensures.held c.self.invariant.indexed }
 
 pub invariant_of-self-2 : goal.invariant_of-self-2
 invariant_of-self-2 c =
@@ -14,7 +10,7 @@ invariant_of-self-2 c =
     record {
       table = c.reserve_one.ensures.table;
       indexed = rw c.reserve_one.ensures.held (record {
-        keyed = λ q. rw same_fun at (c.reserve.ensures.entries.2 q) ∙ was.keyed q;
+        keyed = λ q. c.reserve_two.ensures.slots q ∙ was.keyed q;
         distinct = was.distinct;
         apart = was.apart;
         count = was.count;
