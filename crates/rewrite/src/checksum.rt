@@ -14,6 +14,7 @@ pub(crate) struct ChecksumDelta {
 
 impl ChecksumDelta {
     /// The change of one word.
+    #[inline(always)]
     pub(crate) fn word(old: u16, new: u16) -> ChecksumDelta
         ensures { result ≡ u16_change old new }
     {
@@ -25,6 +26,7 @@ impl ChecksumDelta {
     }
 
     /// The change of a 32-bit number, which is two words.
+    #[inline(always)]
     pub(crate) fn number(old: u32, new: u32) -> ChecksumDelta
         ensures { result ≡ u32_change old new }
     {
@@ -36,6 +38,7 @@ impl ChecksumDelta {
     }
 
     /// These changes and others.
+    #[inline(always)]
     pub(crate) fn and(self, other: ChecksumDelta) -> ChecksumDelta
         requires old { self.old + other.old < 2 ^ 32 }
         requires new { self.new + other.new < 2 ^ 32 }
@@ -49,6 +52,7 @@ impl ChecksumDelta {
     }
 
     /// The checksum after the change; the same where no word changed.
+    #[inline(always)]
     pub(crate) fn update(self, checksum: u16) -> u16
         ensures { result ≡ updated_checksum self checksum }
     {
@@ -60,6 +64,7 @@ impl ChecksumDelta {
     }
 
     /// The same for UDP, where 0 means no checksum and a computed 0 is written as ffff (RFC 768).
+    #[inline(always)]
     pub(crate) fn update_udp(self, checksum: u16) -> u16
         ensures { result ≡ updated_udp_checksum self checksum }
     {
@@ -74,10 +79,12 @@ impl ChecksumDelta {
 
     /// The incremental update (RFC 1624, section 3): the number from 0 to 65534 that is congruent to
     /// the checksum plus the old words minus the new ones, modulo 65535.
+    #[inline(always)]
     fn incremental_update(self, checksum: u16) -> u16
         ensures { result ≡ corrected checksum self.old self.new }
     {
-        let sum = checksum as u64 + self.old as u64 + (65535 - self.new as u64 % 65535);
+        // 2^32 - 1 is a multiple of 65535.
+        let sum = checksum as u64 + self.old as u64 + (u32::MAX - self.new) as u64;
         (sum % 65535) as u16
     }
 }

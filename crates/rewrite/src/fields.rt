@@ -47,6 +47,7 @@ pub(crate) enum TransportFields {
 
 impl Fields {
     /// Reads the fields of the datagram that begins at `start`.
+    #[inline(always)]
     pub(crate) fn read(packet: &[u8], start: usize) -> Fields
         requires { HasFields start packet.now }
         ensures fields { result ≡ fields_at start packet.now }
@@ -64,6 +65,7 @@ impl Fields {
     }
 
     /// The fields after a change, with updated checksums.
+    #[inline(always)]
     pub(crate) fn changed(&self, change: &Change) -> Fields
         ensures { result ≡ changed_fields change.now self.now }
     {
@@ -86,6 +88,7 @@ impl Fields {
     }
 
     /// Whether a change leaves addresses, ports and identifier as they are.
+    #[inline(always)]
     pub(crate) fn keeps_endpoints(&self, change: &Change) -> bool
         ensures { result ≡ keeps_endpoints change.now self.now }
     {
@@ -96,6 +99,7 @@ impl Fields {
 
     /// Writes another TTL, or the same, into the datagram that begins at `start`, and updates the
     /// header checksum.
+    #[inline(always)]
     pub(crate) fn write_ttl(&self, packet: &mut [u8], start: usize, ttl: Option<u8>)
         requires { start + 12 ≤ length packet.old }
         ensures { packet.new ≡ with_ttl_field start packet.old self.now ttl }
@@ -125,6 +129,7 @@ impl Fields {
     }
 
     /// Writes the fields into the datagram that begins at `start`.
+    #[inline(always)]
     pub(crate) fn write(&self, packet: &mut [u8], start: usize)
         requires long { 20 ≤ header_len (drop start packet.old) }
         requires whole { payload_at start packet.old + len_of self.now.transport
@@ -163,6 +168,7 @@ impl Fields {
 
 impl TransportFields {
     /// Reads the fields of a payload with this protocol number.
+    #[inline(always)]
     fn read(protocol: u8, payload: &[u8]) -> TransportFields
         requires { len_of (transport_fields_of protocol payload.now) ≤ length payload.now }
         ensures { result ≡ transport_fields_of protocol payload.now }
@@ -185,6 +191,7 @@ impl TransportFields {
 
     /// Reads the fields of an ICMP message. Only echo request (8) and echo reply (0) have an
     /// identifier.
+    #[inline(always)]
     fn read_icmp(message: &[u8]) -> TransportFields
         requires { len_of (transport_fields_of 1 message.now) ≤ length message.now }
         ensures { result ≡ transport_fields_of 1 message.now }
@@ -199,6 +206,7 @@ impl TransportFields {
     }
 
     /// Whether these ports, or this identifier, are the ones that it has.
+    #[inline(always)]
     fn keeps_numbers(&self, numbers: Option<PortsOrIdentifier>) -> bool
         ensures { result ≡ keeps_numbers numbers self.now }
     {
@@ -229,6 +237,7 @@ impl TransportFields {
 
     /// The fields after a change of ports or identifier and of the addresses, which TCP and UDP
     /// cover too, in the pseudo header.
+    #[inline(always)]
     fn changed(
         &self,
         numbers: Option<PortsOrIdentifier>,
@@ -273,6 +282,7 @@ impl TransportFields {
 }
 
 /// The checksum of a TCP segment, if the segment is long enough.
+#[inline(always)]
 fn tcp_checksum(segment: &[u8]) -> Option<u16>
     ensures { result ≡ tcp_checksum_of segment.now }
 {
@@ -283,6 +293,7 @@ fn tcp_checksum(segment: &[u8]) -> Option<u16>
 }
 
 /// The given ports, else these.
+#[inline(always)]
 fn named_ports(numbers: Option<PortsOrIdentifier>, from: u16, to: u16) -> (u16, u16)
     ensures { result ≡ ports_named numbers from to }
 {
@@ -293,6 +304,7 @@ fn named_ports(numbers: Option<PortsOrIdentifier>, from: u16, to: u16) -> (u16, 
 }
 
 /// The given identifier, else this one.
+#[inline(always)]
 fn named_identifier(numbers: Option<PortsOrIdentifier>, identifier: u16) -> u16
     ensures { result ≡ identifier_named numbers identifier }
 {
@@ -303,6 +315,7 @@ fn named_identifier(numbers: Option<PortsOrIdentifier>, identifier: u16) -> u16
 }
 
 /// The change of two ports.
+#[inline(always)]
 fn port_words(old: (u16, u16), new: (u16, u16)) -> ChecksumDelta
     ensures { result ≡ port_change old new }
 {

@@ -1,10 +1,10 @@
 //! Rewrites packets.
-ghost use Rattle.std.specs.Prelude.{◌≡◌, ◌+◌, ◌<◌, ◌≤◌, ◌++◌, drop, length, OnOk, OnErr, vec_len, vec_capacity};
+ghost use Rattle.std.specs.Prelude.{◌≡◌, ◌+◌, ◌<◌, ◌≤◌, ◌++◌, length, OnOk, OnErr, vec_len, vec_capacity};
 ghost use Rattle.std.specs.Option.{option_and};
-ghost use Rattle.ip_headers.specs.Header.{header_len, payload_at};
+ghost use Rattle.ip_headers.specs.Header.{payload_at};
 ghost use Rattle.ip_headers.specs.Tuple.{inner_tuple_of};
 ghost use Rattle.rewrite.specs.Rewritten.{payload_in, inner_start, update_checksum, replaced, rewritten, update_checksums, with_endpoints};
-ghost use Rattle.rewrite.specs.steps.Fields.{HasFields, changed_fields, len_of, with_fields};
+ghost use Rattle.rewrite.specs.steps.Fields.{HasFields};
 
 use crate::Memory;
 use crate::change::Change;
@@ -90,21 +90,16 @@ fn rewrite(packet: &mut [u8], start: usize, change: &Change)
     ensures { packet.new ≡ update_checksums start packet.old
         (replaced start packet.old change.now) }
 {
+    // Most packets that are forwarded aren't translated: the TTL and the header checksum are read and
+    // written alone.
+    if change.names_no_endpoints() {
+        Fields::read(packet, start).write_ttl(packet, start, change.ttl);
+        return;
+    }
     let fields = Fields::read(packet, start);
-    // Most packets that are forwarded aren't translated.
     if fields.keeps_endpoints(change) {
         fields.write_ttl(packet, start, change.ttl);
     } else {
-        // By value, so that fields and change needn't be in memory for the others.
-        write_changed(packet, start, fields, *change);
+        fields.changed(change).write(packet, start);
     }
-}
-
-/// Writes the fields after a change into the datagram that begins at `start`.
-fn write_changed(packet: &mut [u8], start: usize, fields: Fields, change: Change)
-    requires long { 20 ≤ header_len (drop start packet.old) }
-    requires whole { payload_at start packet.old + len_of fields.transport ≤ length packet.old }
-    ensures { packet.new ≡ with_fields start packet.old (changed_fields change fields) }
-{
-    fields.changed(&change).write(packet, start);
 }
