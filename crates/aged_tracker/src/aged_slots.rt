@@ -5,10 +5,9 @@ ghost use Rattle.conntrack.specs.ConntrackEntry.{connection_of, is_live, without
 ghost use Rattle.conntrack.specs.TableEntries.{begun_with, touched_at, IsNoneLater, IsWithin};
 ghost use Rattle.aged_tracker.specs.steps.Table.{AreOldest, AreOldestBut, HasRings, IsAllLive, IsLiveQueue, IsOwned, IsRings, IsTable, Lists, MAX_KEYS};
 ghost use Rattle.aged_tracker.specs.steps.Table.{Relists, SameBy, SameSize, Slots as SlotsName, belonging_at, except_links, has_room, held_at, held_by};
-ghost use Rattle.aged_tracker.specs.steps.Table.{last_at, limit_at, off, owner_of, prev_of, pushed, queue_by, slots_of, tuple_of};
+ghost use Rattle.aged_tracker.specs.steps.Table.{last_at, limit_at, off, owner_of, prev_of, pushed, queue_by, slots_of};
 
 use crate::linked_lists::{empty_heads, front, is_first, is_last, push_back, unlink};
-use crate::packed::PackedTuple;
 use crate::slot::{LISTS, Link, MAX_KEYS, Slot, idle_at, queue_by};
 use crate::slots::Slots;
 use box_file::Limits;
@@ -16,6 +15,7 @@ use conntrack::{
     Belonging, ConnId, Connection, ConntrackEntry, Direction, Flags, Memory, Moment, Steps,
     limit_in,
 };
+use ip_headers::Tuple;
 use std::alloc::Global;
 
 /// The slots, which are numbered in the order of their creation, and a queue for each timeout. In
@@ -146,14 +146,14 @@ impl AgedSlots {
     pub fn belonging(
         &self,
         key: usize,
-        limits: Limits,
-        tuple: PackedTuple,
+        limits: &Limits,
+        tuple: Tuple,
         flags: Flags,
         now: Moment,
         steps: &mut Steps,
     ) -> Option<Belonging>
         ensures belonging { result
-            ≡ belonging_at limits now (tuple_of tuple) flags (slots_of self.now key) }
+            ≡ belonging_at limits.now now tuple flags (slots_of self.now key) }
         ensures steps { IsWithin (Some 1) steps.old steps.new }
     {
         let slot = self.slots.get(key, steps)?;

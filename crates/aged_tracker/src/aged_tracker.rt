@@ -4,7 +4,6 @@ ghost use Rattle.conntrack.specs.ConntrackEntry.{belongs_in};
 ghost use Rattle.conntrack.specs.TableEntries.{IsWithin, has_distinct_ids, have_disjoint_tuples, live_at};
 
 use crate::aged_slots::AgedSlots;
-use crate::packed::PackedTuple;
 use crate::tuple_index::TupleIndex;
 use box_file::Limits;
 use conntrack::laws::independent_of_ids;
@@ -75,11 +74,10 @@ impl AgedTracker {
         ensures apart { IsTrue (have_disjoint_tuples self.now.held) }
         ensures steps { IsWithin (Some 3) steps.old steps.new }
     {
-        let packed = PackedTuple::of_tuple(tuple);
         if self.was_likely {
             let guessed = self
                 .slots
-                .belonging(self.likely, self.limits, packed, flags, now, steps);
+                .belonging(self.likely, &self.limits, tuple, flags, now, steps);
             if let Some(belonging) = guessed {
                 return belonging;
             }
@@ -89,7 +87,7 @@ impl AgedTracker {
             // An entry with the tuple is there.
             Some(key) => self
                 .slots
-                .belonging(key, self.limits, packed, flags, now, steps)
+                .belonging(key, &self.limits, tuple, flags, now, steps)
                 .unwrap_or(Belonging::NotFound),
         }
     }

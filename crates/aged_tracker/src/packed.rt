@@ -36,12 +36,6 @@ impl PackedEndpoint {
         }
     }
 
-    fn is_same(self, other: Self) -> bool
-        ensures { result ≡ same_endpoint (endpoint_of self) (endpoint_of other) }
-    {
-        self.low == other.low && self.high == other.high && self.port == other.port
-    }
-
     fn endpoint(self) -> Endpoint
         ensures { result ≡ endpoint_of self }
     {
@@ -49,6 +43,14 @@ impl PackedEndpoint {
             address: u32::from(self.high) * 65536 + u32::from(self.low),
             port: self.port,
         }
+    }
+
+    #[inline(always)]
+    fn is(self, endpoint: Endpoint) -> bool
+        ensures { result ≡ same_endpoint (endpoint_of self) endpoint }
+    {
+        let own = self.endpoint();
+        own.address == endpoint.address && own.port == endpoint.port
     }
 }
 
@@ -82,13 +84,12 @@ impl PackedTuple {
         }
     }
 
-    /// Whether it is the same tuple.
-    pub fn is_same(self, other: Self) -> bool
-        ensures { result ≡ same_tuple (tuple_of self) (tuple_of other) }
+    /// Whether it is this tuple. Most that aren't have another source.
+    #[inline(always)]
+    pub fn is(self, tuple: Tuple) -> bool
+        ensures { result ≡ same_tuple (tuple_of self) tuple }
     {
-        self.first.is_same(other.first)
-            && self.second.is_same(other.second)
-            && self.kind == other.kind
+        self.first.is(tuple.source) && self.second.is(tuple.destination) && self.kind == tuple.kind
     }
 
     /// Packs a mapping, if there is one.

@@ -2,7 +2,7 @@
 ghost use Rattle.std.specs.Prelude.{◌≡◌, ◌+◌, ◌<◌, ℕ, None, IfSome, IfNone};
 ghost use Rattle.conntrack.specs.Phases.{is_closing, phase_by};
 ghost use Rattle.conntrack.specs.ConntrackEntry.{connection_ref, is_live};
-ghost use Rattle.aged_tracker.specs.steps.Table.{MAX_KEYS, belonging_in, direction_in, held_of, idle_at, number, queue_by, queue_in, touched_slot, tuple_of, with_neighbour};
+ghost use Rattle.aged_tracker.specs.steps.Table.{MAX_KEYS, belonging_in, direction_in, held_of, idle_at, number, queue_by, queue_in, touched_slot, with_neighbour};
 
 use crate::packed::PackedTuple;
 use box_file::{IdleKind, Limits};
@@ -10,7 +10,7 @@ use conntrack::{
     Belonging, ConnId, ConnectionRef, ConntrackEntry, Direction, Flags, Moment, Phase, idle_kind,
     limit_by,
 };
-use ip_headers::Kind;
+use ip_headers::{Kind, Tuple};
 use std::mem::size_of;
 
 /// How many queues there are: one for each timeout.
@@ -218,10 +218,10 @@ impl Slot {
     }
 
     /// Whether the entry is live at a moment.
-    fn is_live(&self, limits: Limits, now: Moment) -> bool
-        ensures { result ≡ is_live limits now (held_of 0 self.now) }
+    fn is_live(&self, limits: &Limits, now: Moment) -> bool
+        ensures { result ≡ is_live limits.now now (held_of 0 self.now) }
     {
-        now.saturating_sub(self.last) < limit_by(limits, self.original.kind(), self.phase())
+        now.saturating_sub(self.last) < limit_by(*limits, self.original.kind(), self.phase())
     }
 
     /// Whether its connection is closing.
@@ -247,12 +247,12 @@ impl Slot {
 
     /// The direction of a packet with this tuple, if that is an incoming tuple of the entry.
     #[inline(always)]
-    pub fn direction_of(&self, tuple: PackedTuple) -> Option<Direction>
-        ensures { result ≡ direction_in (tuple_of tuple) (held_of 0 self.now) }
+    pub fn direction_of(&self, tuple: Tuple) -> Option<Direction>
+        ensures { result ≡ direction_in tuple (held_of 0 self.now) }
     {
-        if self.original.is_same(tuple) {
+        if self.original.is(tuple) {
             Some(Direction::Original)
-        } else if self.reply.is_same(tuple) {
+        } else if self.reply.is(tuple) {
             Some(Direction::Reply)
         } else {
             None
@@ -264,12 +264,13 @@ impl Slot {
     pub fn belonging(
         &self,
         key: usize,
-        limits: Limits,
+        limits: &Limits,
         direction: Direction,
         flags: Flags,
         now: Moment,
     ) -> Belonging
-        ensures { result ≡ belonging_in limits now flags (held_of key self.now) direction }
+        ensures { result
+            ≡ belonging_in limits.now now flags (held_of key self.now) direction }
     {
         if !self.is_live(limits, now) {
             return Belonging::NotFound;
