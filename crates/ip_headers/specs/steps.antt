@@ -2,3 +2,4 @@
 pub mod Ports
 pub mod Equal
 pub mod WordBytes
+pub mod Decoding

@@ -1,5 +1,5 @@
 //! Tuples: kind, source and destination endpoint of a packet.
-ghost use Rattle.std.specs.Prelude.{◌≡◌, ◌≤◌, true, length};
+ghost use Rattle.std.specs.Prelude.{◌≡◌, ◌+◌, ◌*◌, ◌≤◌, true, length};
 ghost use Rattle.ip_headers.specs.Header.{protocol};
 ghost use Rattle.ip_headers.specs.Transport.{icmp_type};
 ghost use Rattle.ip_headers.specs.Tuple.{inner_tuple, inverse, inverse_kind, is_error_type, echo_kind, tuple_in};
@@ -75,8 +75,9 @@ impl Hash for Tuple {
 
     // Two words in place of a write for each field.
     fn hash<H: Hasher>(&self, state: &mut H) {
-        state.write_u64(self.source.hash_word(self.kind));
-        state.write_u64(self.destination.hash_word(self.kind));
+        let kind = self.kind.number();
+        state.write_u64(self.source.word(kind));
+        state.write_u64(self.destination.word(kind));
     }
 }
 
@@ -86,7 +87,15 @@ impl Endpoint {
     pub fn hash_word(self, kind: Kind) -> u64
         ensures { result ≡ hash_word kind self }
     {
-        let kind_and_port = u64::from(kind.number()) * 65_536 + u64::from(self.port);
+        self.word(kind.number())
+    }
+
+    /// The same, given the kind's number.
+    #[inline(always)]
+    fn word(self, kind: u16) -> u64
+        ensures { result ≡ kind * 281474976710656 + self.port * 4294967296 + self.address }
+    {
+        let kind_and_port = u64::from(kind) * 65_536 + u64::from(self.port);
         kind_and_port * 4_294_967_296 + u64::from(self.address)
     }
 }
@@ -177,7 +186,7 @@ fn kind_and_ports(protocol: u8, payload: &[u8]) -> Option<(Kind, u16, u16)>
 }
 
 /// The same of an ICMP message: echo request or echo reply.
-fn query_kind_and_ports(message: &[u8]) -> Option<(Kind, u16, u16)>
+pub(crate) fn query_kind_and_ports(message: &[u8]) -> Option<(Kind, u16, u16)>
     requires { 8 ≤ length message.now }
     ensures { result ≡ kind_with_ports (echo_kind (icmp_type message.now)) message.now }
 {

@@ -3,11 +3,13 @@ ghost use Rattle.std.specs.Prelude.{◌≤◌, length, ◌≡◌, None, take, If
 ghost use Rattle.std.specs.Result.{result_err as err_of};
 ghost use Rattle.ip_headers.specs.Header.{fault_of, packet_of, payload_of, header_len, total_len, protocol, source, destination, transport_of, ttl};
 ghost use Rattle.ip_headers.specs.Tuple.{inner_tuple_of, is_error, tuple_of};
+ghost use Rattle.ip_headers.specs.steps.Decoding.{decoded_of};
+ghost use Rattle.ip_headers.specs.steps.Ports.{kind_and_ports};
 
 use crate::bytes::{u16_at, u32_at};
 use crate::sum::header_sum;
 use crate::transport::{self, Transport};
-use crate::tuple::{self, Tuple};
+use crate::tuple::{self, Endpoint, Kind, Tuple};
 use std::fmt;
 use thiserror::Error;
 
@@ -67,6 +69,34 @@ impl fmt::Display for HeaderFault {
     }
 }
 
+/// The header fields that are asked for, each decoded once.
+#[derive(Clone, Copy)]
+struct Decoded {
+    source: u32,
+    destination: u32,
+    ttl: u8,
+    protocol: u8,
+    transport: Transport,
+}
+
+impl Decoded {
+    /// Those of a packet that passed the tests, given its payload.
+    #[inline(always)]
+    fn read(packet: &[u8], payload: &[u8]) -> Self
+        requires whole { fault_of packet.now ≡ None }
+        requires tail { payload.now ≡ payload_of packet.now }
+        ensures { result ≡ decoded_of packet.now }
+    {
+        Decoded {
+            source: u32_at(packet, 12),
+            destination: u32_at(packet, 16),
+            ttl: packet[8],
+            protocol: packet[9],
+            transport: transport::read(packet[9], payload),
+        }
+    }
+}
+
 /// A valid packet: its parts, which borrow the record. Bytes past the total length are left out.
 #[derive(Clone, Copy)]
 pub struct View<'a> {
@@ -76,11 +106,13 @@ pub struct View<'a> {
     pub header: &'a [u8],
     /// The bytes after the header.
     pub payload: &'a [u8],
+    decoded: Decoded,
     pub ghost whole: { fault_of packet.now ≡ None },
     pub ghost head: { header.now ≡ take (header_len packet.now) packet.now },
     pub ghost tail: { payload.now ≡ payload_of packet.now },
     pub ghost exact: { length packet.now ≡ total_len packet.now },
     pub ghost small: { length packet.now ≤ 65535 },
+    ghost fields: { decoded ≡ decoded_of packet.now },
 }
 
 impl<'a> View<'a> {
@@ -127,6 +159,7 @@ impl<'a> View<'a> {
             packet,
             header,
             payload,
+            decoded: Decoded::read(packet, payload),
         })
     }
 
@@ -134,49 +167,79 @@ impl<'a> View<'a> {
     pub fn source(&self) -> u32
         ensures { result ≡ source self.now.packet.now }
     {
-        u32_at(self.packet, 12)
+        self.decoded.source
     }
 
     /// The destination address in host byte order.
     pub fn destination(&self) -> u32
         ensures { result ≡ destination self.now.packet.now }
     {
-        u32_at(self.packet, 16)
+        self.decoded.destination
     }
 
     /// The time to live.
     pub fn ttl(&self) -> u8
         ensures { result ≡ ttl self.now.packet.now }
     {
-        self.packet[8]
+        self.decoded.ttl
     }
 
     /// The protocol number (IANA).
     pub fn protocol(&self) -> u8
         ensures { result ≡ protocol self.now.packet.now }
     {
-        self.packet[9]
+        self.decoded.protocol
     }
 
     /// The length of the packet in bytes, with its header.
     pub fn total_length(&self) -> u16
         ensures { result ≡ total_len self.now.packet.now }
     {
-        u16_at(self.packet, 2)
+        self.packet.len() as u16
     }
 
     /// The transport header.
     pub fn transport(&self) -> Transport
         ensures { result ≡ transport_of self.now.packet.now }
     {
-        transport::read(self.protocol(), self.payload)
+        self.decoded.transport
     }
 
     /// The packet's tuple; `None` for ICMP messages other than echo request and echo reply.
     pub fn tuple(&self) -> Option<Tuple>
         ensures { result ≡ tuple_of self.now.packet.now }
     {
-        tuple::tuple_in(self.packet, self.payload)
+        let (kind, from, to) = self.kind_and_ports()?;
+        Some(Tuple {
+            kind,
+            source: Endpoint {
+                address: self.source(),
+                port: from,
+            },
+            destination: Endpoint {
+                address: self.destination(),
+                port: to,
+            },
+        })
+    }
+
+    /// The packet's kind, source port and destination port.
+    fn kind_and_ports(&self) -> Option<(Kind, u16, u16)>
+        ensures { result ≡ kind_and_ports (protocol self.now.packet.now) self.now.payload.now }
+    {
+        match self.decoded.transport {
+            Transport::Tcp {
+                source,
+                destination,
+                ..
+            } => Some((Kind::Tcp, source, destination)),
+            Transport::Udp {
+                source,
+                destination,
+            } => Some((Kind::Udp, source, destination)),
+            Transport::Icmp { .. } => tuple::query_kind_and_ports(self.payload),
+            Transport::Other => Some((Kind::Other(self.decoded.protocol), 0, 0)),
+        }
     }
 
     /// Whether the packet is an ICMP error: type 3, 4, 5, 11 or 12.

@@ -1,8 +1,6 @@
 //! Header changes.
-ghost use Rattle.std.specs.Prelude.{◌≡◌, IsTrue};
+ghost use Rattle.std.specs.Prelude.{◌≡◌};
 ghost use Rattle.rewrite.specs.Endpoints.{between, ports_or_identifier};
-ghost use Rattle.rewrite.specs.declared.fields.Fields.{Fields};
-ghost use Rattle.rewrite.specs.steps.Fields.{keeps_endpoints};
 
 use ip_headers::{Kind, Tuple};
 
@@ -44,14 +42,6 @@ impl Change {
             ttl,
             inner: None,
         }
-    }
-
-    /// Whether it names no address, port or identifier.
-    #[inline(always)]
-    pub(crate) fn names_no_endpoints(&self) -> bool
-        ensures { IsTrue result → (fields : Fields) → IsTrue (keeps_endpoints self.now fields) }
-    {
-        self.source.is_none() && self.destination.is_none() && self.numbers.is_none()
     }
 }
 

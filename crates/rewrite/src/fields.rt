@@ -1,6 +1,6 @@
 //! The fields of a datagram that a change may replace.
 ghost use Rattle.std.specs.Prelude.{◌≡◌, ◌+◌, ◌<◌, ◌≤◌, ℕ, drop, length, slice_index};
-ghost use Rattle.ip_headers.specs.Header.{payload_at, header_len};
+ghost use Rattle.ip_headers.specs.Header.{payload_at, header_len, protocol};
 ghost use Rattle.rewrite.specs.steps.Fields.{keeps_endpoints, keeps_numbers, transport_fields_of};
 ghost use Rattle.rewrite.specs.steps.Fields.{transport_words, changed_transport_fields, changed_fields, fields_at};
 ghost use Rattle.rewrite.specs.steps.Fields.{fields_change, identifier_named, len_of, port_change, ports_named};
@@ -9,7 +9,7 @@ ghost use Rattle.rewrite.specs.steps.Fields.{tcp_checksum_of, with_fields, with_
 use crate::change::{Change, PortsOrIdentifier};
 use crate::checksum::ChecksumDelta;
 use byteorder::{BigEndian, ByteOrder};
-use ip_headers::PartsMut;
+use ip_headers::{PartsMut, Transport, View};
 
 /// The fields of a datagram that a change may replace, and the checksums over them.
 #[derive(Clone, Copy)]
@@ -46,6 +46,23 @@ pub(crate) enum TransportFields {
 }
 
 impl Fields {
+    /// The fields of a packet: its view has all decoded but the checksums.
+    #[inline(always)]
+    pub(crate) fn of(view: &View, packet: &[u8]) -> Fields
+        requires same { packet.now ≡ view.now.packet.now }
+        requires room { HasFields 0 view.now.packet.now }
+        ensures fields { result ≡ fields_at 0 view.now.packet.now }
+        ensures bytes { (i : ℕ) → slice_index packet.now i < 256 }
+    {
+        Fields {
+            source: view.source(),
+            destination: view.destination(),
+            ttl: view.ttl(),
+            checksum: BigEndian::read_u16(&packet[10..]),
+            transport: TransportFields::of(view),
+        }
+    }
+
     /// Reads the fields of the datagram that begins at `start`.
     #[inline(always)]
     pub(crate) fn read(packet: &[u8], start: usize) -> Fields
@@ -167,6 +184,37 @@ impl Fields {
 }
 
 impl TransportFields {
+    /// The fields of a packet's payload.
+    #[inline(always)]
+    fn of(view: &View) -> TransportFields
+        requires { len_of (transport_fields_of (protocol view.now.packet.now) view.now.payload.now)
+            ≤ length view.now.payload.now }
+        ensures { result
+            ≡ transport_fields_of (protocol view.now.packet.now) view.now.payload.now }
+    {
+        match view.transport() {
+            Transport::Tcp {
+                source,
+                destination,
+                ..
+            } => TransportFields::Tcp {
+                from: source,
+                to: destination,
+                checksum: tcp_checksum(view.payload),
+            },
+            Transport::Udp {
+                source,
+                destination,
+            } => TransportFields::Udp {
+                from: source,
+                to: destination,
+                checksum: BigEndian::read_u16(&view.payload[6..]),
+            },
+            Transport::Icmp { .. } => TransportFields::read_icmp(view.payload),
+            Transport::Other => TransportFields::Other,
+        }
+    }
+
     /// Reads the fields of a payload with this protocol number.
     #[inline(always)]
     fn read(protocol: u8, payload: &[u8]) -> TransportFields

@@ -1,10 +1,10 @@
 //! Rewrites packets.
-ghost use Rattle.std.specs.Prelude.{◌≡◌, ◌+◌, ◌<◌, ◌≤◌, ◌++◌, length, OnOk, OnErr, vec_len, vec_capacity};
+ghost use Rattle.std.specs.Prelude.{◌≡◌, ◌+◌, ◌<◌, ◌≤◌, ◌++◌, ℕ, length, slice_index, OnOk, OnErr, vec_len, vec_capacity};
 ghost use Rattle.std.specs.Option.{option_and};
 ghost use Rattle.ip_headers.specs.Header.{payload_at};
 ghost use Rattle.ip_headers.specs.Tuple.{inner_tuple_of};
 ghost use Rattle.rewrite.specs.Rewritten.{payload_in, inner_start, update_checksum, replaced, rewritten, update_checksums, with_endpoints};
-ghost use Rattle.rewrite.specs.steps.Fields.{HasFields};
+ghost use Rattle.rewrite.specs.steps.Fields.{HasFields, fields_at};
 
 use crate::Memory;
 use crate::change::Change;
@@ -47,10 +47,14 @@ pub fn rewrite_packet(packet: &mut [u8], view: &View, change: &Change)
     ensures { packet.new ≡ rewritten packet.old change.now }
 {
     no_fault();
-    if let Some(tuple) = quoted_endpoints(view, change) {
-        rewrite_inner(packet, view.header.len(), tuple);
-    }
-    rewrite(packet, 0, change);
+    let fields = match quoted_endpoints(view, change) {
+        Some(tuple) => {
+            rewrite_inner(packet, view.header.len(), tuple);
+            Fields::read(packet, 0)
+        }
+        None => Fields::of(view, packet),
+    };
+    rewrite(packet, 0, fields, change);
 }
 
 /// The new endpoints of the quoted datagram, if the packet quotes one that can be translated.
@@ -83,20 +87,16 @@ fn rewrite_inner(packet: &mut [u8], payload: usize, tuple: Tuple)
     parts.set_icmp_checksum(old.words_to(&new).update(checksum));
 }
 
-/// Rewrites the datagram that begins at `start`, with its checksums.
+/// Rewrites the datagram that begins at `start`, given its fields, with its checksums.
 #[inline(always)]
-fn rewrite(packet: &mut [u8], start: usize, change: &Change)
-    requires { HasFields start packet.old }
+fn rewrite(packet: &mut [u8], start: usize, fields: Fields, change: &Change)
+    requires room { HasFields start packet.old }
+    requires small { (i : ℕ) → slice_index packet.old i < 256 }
+    requires fields { fields ≡ fields_at start packet.old }
     ensures { packet.new ≡ update_checksums start packet.old
         (replaced start packet.old change.now) }
 {
-    // Most packets that are forwarded aren't translated: the TTL and the header checksum are read and
-    // written alone.
-    if change.names_no_endpoints() {
-        Fields::read(packet, start).write_ttl(packet, start, change.ttl);
-        return;
-    }
-    let fields = Fields::read(packet, start);
+    // Most packets that are forwarded aren't translated.
     if fields.keeps_endpoints(change) {
         fields.write_ttl(packet, start, change.ttl);
     } else {

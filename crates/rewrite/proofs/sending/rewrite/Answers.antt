@@ -1,24 +1,27 @@
-use Rattle.std.proofs.Common.{arith}
-use Rattle.rewrite.specs.steps.Fields.{fields_at}
+use Rattle.std.proofs.Common.{◌≡◌, true, sym, ap, ◌∙◌}
+use Rattle.rewrite.specs.declared.fields.Fields.{Fields}
+use Rattle.rewrite.specs.steps.Fields.{changed_fields, fields_at, keeps_endpoints, with_fields, with_ttl_field}
 use Rattle.rewrite.proofs.Datagrams.{IsDatagram, own_endpoints, whole_is}
-use Rattle.rewrite.proofs.sending.rewrite.Goals.{After-read, After-read-fields}
+use Rattle.rewrite.proofs.sending.rewrite.Goals.{Start}
 use Rattle.rewrite.proofs.sending.rewrite.Goals as goal
 
-pub returns-then-names_no_endpoints : goal.returns-then-names_no_endpoints
-returns-then-names_no_endpoints c =
-    let p = c.args.packet.now in
-    let d : IsDatagram c.args.start p = record { small = c.read.ensures.bytes; long = c.requires.long; whole = c.requires.whole } in
-    let keeps = c.names_no_endpoints.ensures c.if-names_no_endpoints.true (fields_at c.args.start p) in
-    let kept = own_endpoints c.args.start p c.args.change.now d keeps in
-    let whole = whole_is c.args.start p c.args.change.now d in
-    grind (arith, c.read.ensures.fields, c.write_ttl.ensures, kept, whole)
-
-datagram : (c : After-read-fields) → IsDatagram c.args.start c.args.packet.now
-datagram c = record { small = c.read-fields.ensures.bytes; long = c.requires.long; whole = c.requires.whole }
+datagram : (c : Start) → IsDatagram c.args.start c.args.packet.now
+datagram c = record { small = c.requires.small; long = c.requires.room.long; whole = c.requires.room.whole }
 
 pub returns-then-keeps_endpoints : goal.returns-then-keeps_endpoints
 returns-then-keeps_endpoints c =
-    grind (arith, c.read-fields.ensures.fields, c.keeps_endpoints.ensures, c.if-keeps_endpoints.true, c.write_ttl-then-keeps_endpoints.ensures, own_endpoints, whole_is)
+    let p = c.args.packet.now in
+    let change = c.args.change.now in
+    let d = datagram (goal.at.returns-then-keeps_endpoints c).Start in
+    let keeps : keeps_endpoints change (fields_at c.args.start p) ≡ true = ap (λ (f : Fields). keeps_endpoints change f) (sym c.requires.fields)
+    ∙ sym c.keeps_endpoints.ensures ∙ c.if-keeps_endpoints.true in
+    c.write_ttl.ensures ∙ ap (λ (f : Fields). with_ttl_field c.args.start p f change.ttl) c.requires.fields
+    ∙ own_endpoints c.args.start p change d keeps ∙ whole_is c.args.start p change d
 
 pub returns-else-keeps_endpoints : goal.returns-else-keeps_endpoints
-returns-else-keeps_endpoints c = grind (arith, c.write.ensures, c.changed.ensures, c.read-fields.ensures.fields, whole_is)
+returns-else-keeps_endpoints c =
+    let p = c.args.packet.now in
+    let change = c.args.change.now in
+    c.write.ensures ∙ ap (λ (f : Fields). with_fields c.args.start p f) (c.changed.ensures
+    ∙ ap (λ (f : Fields). changed_fields change f) c.requires.fields)
+    ∙ whole_is c.args.start p change (datagram (goal.at.returns-else-keeps_endpoints c).Start)
