@@ -23,7 +23,8 @@ SYSTEM = (
     ("tell .+|explain usage: .+|warn of .+", "write 2+"),
     ("clarify check .+|list faults", "stat rules, open rules, read rules+, stat box, open box, read box+, write 2+"),
     ("clarify run .+", "stat in, open in, read in+, write 2+"),
-    ("remark on (.+)", r"stat \1, stat box, open box, read box+, open \1, read \1+, write 2+"),
+    ("remark on (.+)", r"stat \1, stat box, open box, read box+, open \1, read \1+, write 2+, stat rules, open rules, "
+     r"read rules+, keys, open \1, read \1+, write 2+"),
 )
 
 

@@ -99,7 +99,7 @@ fn is_ipv6(record: &Record<'_>) -> bool {
 }
 
 /// The source address of an IPv4 packet.
-fn source_of(packet: &[u8]) -> Option<u32> {
+pub(crate) fn source_of(packet: &[u8]) -> Option<u32> {
     if packet.len() < IPV4_HEADER_BYTES || packet[0] / 16 != 4 {
         return None;
     }

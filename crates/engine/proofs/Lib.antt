@@ -1,5 +1,7 @@
 mod Names
 mod Results
+mod FullestLaws
+mod Reruns
 mod Histories
 mod WritingOutputs
 mod Replays

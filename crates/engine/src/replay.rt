@@ -12,7 +12,7 @@ ghost use Rattle.engine.specs.AfterFault.{AllFlushed, CountsFault, devices};
 ghost use Rattle.engine.specs.Refusals.{IsBeforeHeader, IsOfRecord};
 ghost use Rattle.engine.specs.steps.Replayed.{BreaksAtLast, CountsFailedWrite, IsBegun, IsOpened};
 ghost use Rattle.engine.specs.steps.Replayed.{IsStop, KeepsLast, ReplaysAll, RepresentsSome, StillRepresents};
-ghost use Rattle.engine.specs.steps.Replayed.{TakesLast, WritesAll, WritesPrefix, writers};
+ghost use Rattle.engine.specs.steps.Replayed.{StepsLast, TakesLast, WritesAll, WritesPrefix, writers};
 ghost use Rattle.engine.specs.steps.Replayed.{Finishes, LeavesPrefix, WritesOutputs, torn_at};
 
 use crate::fault::RunFault;
@@ -28,10 +28,10 @@ use stepping::{Engine, Processed, one_entry};
 const MOST_PENDING: usize = 4096;
 
 /// A run in progress.
-struct Replay {
-    engine: Engine<AgedTracker>,
-    numbers: Report,
-    records: Capture,
+pub(crate) struct Replay {
+    pub engine: Engine<AgedTracker>,
+    pub numbers: Report,
+    pub records: Capture,
     sink: Sink,
 }
 
@@ -90,7 +90,7 @@ pub(crate) fn replay_capture<R: Read, W: Write, W2: Write>(
 
 impl Replay {
     /// The state before the first record. The output capture's header is buffered or written.
-    fn new<W: Write>(
+    pub(crate) fn new<W: Write>(
         alloc: Global,
         engine: Engine<AgedTracker>,
         records: Capture,
@@ -227,7 +227,7 @@ impl Replay {
 
     /// Processes the last record read: notes its entry, and appends its packet if it is forwarded.
     /// `false` where an allocation failed; then only reservations have changed.
-    fn take<W: Write>(&mut self, sent: &mut Counted<W>) -> Result<bool, DeviceFailed>
+    pub(crate) fn take<W: Write>(&mut self, sent: &mut Counted<W>) -> Result<bool, DeviceFailed>
         requires read { self.old.records.last ≢ None }
         requires few { (self.old.engine.records < 4294967296)
             × (self.old.numbers.records < 4294967296) }
@@ -239,6 +239,8 @@ impl Replay {
         ensures broken { result ≢ Ok true → BreaksAtLast self.old
             (W.contents sent.old.inner) (W.contents sent.new.inner) }
         ensures represents { result ≡ Ok true → RepresentsSome self.new.engine }
+        ensures stepped { result ≡ Ok true → StepsLast self.old self.new }
+        ensures setup { self.new.engine.setup ≡ self.old.engine.setup }
         ensures counted { result ≡ Ok true → (self.new.engine.records ≡ self.old.engine.records + 1)
             × (self.new.numbers.records ≡ self.old.numbers.records + 1) }
         ensures same { self.new.records ≡ self.old.records }

@@ -94,8 +94,8 @@ pub trait Host {
     fn explain_status(&mut self, status: Status, task: &Task<'_>)
         ensures { happens self.old (explain_status status task.now) self.new };
 
-    /// Prints to standard error what of the capture of a run may mislead, as far as reading it and
-    /// the box file again shows it.
+    /// Prints to standard error what of the capture of a run may mislead, and how full the
+    /// connection table got, as far as reading the task's files again shows it.
     fn remark_on_capture(&mut self, paths: &ReplayPaths<'_>)
         ensures { happens self.old (remark_on_capture paths.now) self.new };
 

@@ -1,11 +1,14 @@
 //! Explains a status and locates its fault.
+use crate::destination::Destination;
 use box_file::Plant;
-use capture_remarks::{capture_location, remarks};
+use capture_remarks::{Fullness, SecondRun, Texts, capture_location, remarks, table_remarks};
 use command_line::{ReplayPaths, Task};
 use engine::RulesFault;
 use fault_advice::explained;
 use fault_location::{Fault, SourcePaths, Sources, all_faults};
 use program::Status;
+use std::hash::RandomState;
+use std::random::RandomSource;
 use std::rt::Files;
 use std::{fs, io};
 
@@ -107,13 +110,16 @@ fn print_capture_location<R: Files + Eprint + AllocGlobal>(
     }
 }
 
-/// Prints to standard error what of the capture of a run may mislead, as far as the box file and the
-/// capture are regular files.
-pub fn remark_on_capture<R: Files + Eprint + AllocGlobal>(rt: &R, paths: &ReplayPaths<'_>) {
+/// Prints to standard error what of the capture of a run may mislead, and how full the connection
+/// table got, as far as the texts and the capture are regular files.
+pub fn remark_on_capture<R: Files + Eprint + RandomSource + AllocGlobal>(
+    rt: &R,
+    paths: &ReplayPaths<'_>,
+) {
     let _ = print_remarks(rt, paths);
 }
 
-fn print_remarks<R: Files + Eprint + AllocGlobal>(
+fn print_remarks<R: Files + Eprint + RandomSource + AllocGlobal>(
     rt: &R,
     paths: &ReplayPaths<'_>,
 ) -> io::Result<()> {
@@ -121,11 +127,54 @@ fn print_remarks<R: Files + Eprint + AllocGlobal>(
     if !is_regular(rt, path) {
         return Ok(());
     }
-    let Ok(plant) = Plant::read(rt.alloc(), &read_again(rt, paths.plant)) else {
+    let text = read_again(rt, paths.plant);
+    let Ok(plant) = Plant::read(rt.alloc(), &text) else {
         return Ok(());
     };
     let lines = remarks(rt.alloc(), path, fs::open(rt, path)?, &plant)?;
+    eprint!(rt; "{}", lines.as_str())?;
+    // An empty text would be a ruleset, too.
+    if !is_regular(rt, paths.rules) {
+        return Ok(());
+    }
+    let rules = fs::read(rt, paths.rules)?;
+    let texts = Texts {
+        rules: &rules,
+        plant: &text,
+    };
+    print_fullness(rt, path, texts)
+}
+
+/// Prints to standard error how full the connection table gets as these texts are run over a capture
+/// again.
+fn print_fullness<R: Files + Eprint + RandomSource + AllocGlobal>(
+    rt: &R,
+    path: &str,
+    texts: Texts<'_>,
+) -> io::Result<()> {
+    let hasher = RandomState::new(rt)?;
+    let Some(run) = second_run(rt, path, hasher, texts)? else {
+        return Ok(());
+    };
+    let mut fullness = Fullness::of(rt.alloc(), run)?;
+    if fullness.lacks_hosts() {
+        if let Some(again) = second_run(rt, path, hasher, texts)? {
+            fullness.read_again(rt.alloc(), again)?;
+        }
+    }
+    let lines = table_remarks(rt.alloc(), path, fullness)?;
     eprint!(rt; "{}", lines.as_str())
+}
+
+/// A run of these texts over a capture, which writes to no file.
+fn second_run<R: Files + AllocGlobal>(
+    rt: &R,
+    path: &str,
+    hasher: RandomState,
+    texts: Texts<'_>,
+) -> io::Result<Option<SecondRun<R::File, Destination<R::File>>>> {
+    let capture = fs::open(rt, path)?;
+    Ok(SecondRun::open(rt.alloc(), hasher, texts, capture, Destination::Nothing))
 }
 
 /// Prints to standard error what nft(8) refuses of a ruleset's text, or means otherwise.

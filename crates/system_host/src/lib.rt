@@ -2,6 +2,7 @@
 #![tactic(auto)]
 
 mod closed_pipe;
+mod destination;
 mod diagnosis;
 mod system;
 

@@ -1,8 +1,9 @@
 //! The host that makes the system calls: files, outputs, and the engine over them.
 ghost use Rattle.program.specs.Outputs.{capture_bytes};
-ghost use Rattle.system_host.specs.steps.Promised.{IsGuaranteed};
+ghost use Rattle.system_host.specs.steps.Promised.{IsGuaranteed, held_by};
 
 use crate::closed_pipe::{PipeWriter, is_closed_pipe};
+use crate::destination::Destination;
 use crate::diagnosis::{explain_status, list_faults, remark_on_capture, warn_of_nft};
 use clap::Error;
 use command_line::{CheckPaths, ReplayPaths, Task};
@@ -136,12 +137,12 @@ impl<'a, R: Clock + Env + Files + Print + Eprint + RandomSource + AllocGlobal> H
     for System<'a, R> {
     type Input = Counted<ProgressReader<'a, R, R::File>>;
 
-    type Output = Counted<R::File>;
+    type Output = Counted<Destination<R::File>>;
 
     // What files hold can't be stated. What the engine guarantees of a run for its texts and its
     // capture can, and so can what it guarantees of a check.
     ghost happens = { λ _ call _.
-        IsGuaranteed (capture_bytes R.File.remaining) R.File.contents call };
+        IsGuaranteed (capture_bytes R.File.remaining) (held_by R.File.contents) call };
 
     fn words(&mut self) -> io::Result<Vec<String>> {
         Ok(env::args(self.rt)?.collect(self.rt.alloc())?)
@@ -183,7 +184,7 @@ impl<'a, R: Clock + Env + Files + Print + Eprint + RandomSource + AllocGlobal> H
 
     fn create(&mut self, path: &str) -> io::Result<Self::Output> {
         let answer = fs::create(self.rt, path);
-        Ok(Counted::new(self.keep(path, answer)?))
+        Ok(Counted::new(Destination::File(self.keep(path, answer)?)))
     }
 
     fn run(

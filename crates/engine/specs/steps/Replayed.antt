@@ -82,6 +82,13 @@ pub record PrefixWritten (start : ReplayStart) (history : List Entry) (w r : Opt
 abbrev pub RepresentsSome : EngineState → Type 0
 RepresentsSome engine = (history : List Entry) × Represents engine history
 
+-- of each history that the engine of a replay represents, it now represents that with the entry of the last
+-- record read
+abbrev pub StepsLast : Replay → Replay → Type 0
+StepsLast replay now = (history : List Entry) → Represents replay.engine history
+    → IfSome replay.records.last (λ taken. (e : Entry) × Next replay.engine.setup history taken e
+    × Represents now.engine (e ∷ history))
+
 -- a replay represents a history: its engine and its report do, and both outputs are written but for the
 -- sink's buffer and the report's notes
 pub record ReplayRepresents (replay : Replay) (start : ReplayStart) (history : List Entry)

@@ -4,6 +4,13 @@ use Rattle.pcap_io.specs.declared.counted.Counted.{Counted}
 use Rattle.engine.specs.Judged.{Judged, JudgeRefuses}
 use Rattle.program.specs.Calls.{Call, run, judge}
 use Rattle.program.specs.Outputs.{Device, UsesDevices, device}
+use Rattle.system_host.specs.declared.destination.Destination.{Destination}
+use Rattle.system_host.specs.declared.destination.Destination.TheVariants.{File, Nothing}
+
+-- what a file holds; of what is lost nothing is known
+abbrev pub held_by : {F : Type 0} → (F → Option (List ℕ)) → Destination F → Option (List ℕ)
+held_by contents (File file) = contents file
+held_by contents Nothing = None
 
 -- the report's file before and after; standard output is no value of the call
 abbrev pub Reported : {O : Type 0} → (O → Option (List ℕ)) → Option (Counted O) → Option (Counted O)
