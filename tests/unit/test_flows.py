@@ -47,8 +47,8 @@ class OfRouter(FilesCase):
         self.assertEqual([flow.number for flow in flows.all if flow.is_own], [flows.of[8]])
         self.assertEqual(flows.answers_to_box(), [8])
         self.assertEqual((flows.copies, flows.own), (6, 1))
-        self.assertEqual((first.answered, first.acked), (3, 5))
-        self.assertEqual(flows.all[flows.of[9]].answered, 11)
+        self.assertEqual((flows.answered[first.number], flows.acked[first.number]), (3, 5))
+        self.assertEqual(flows.answered[flows.of[9]], 11)
         self.assertEqual(flows.without_beginning(), 0)
         self.assertEqual([flow.number for flow in flows.some()], [1, 2, 3, 4])
 
@@ -90,7 +90,7 @@ class OfPlainRouting(FilesCase):
         flows = self.flows(1, 2, 3)
         self.assertEqual(list(flows.of), [0, 1, 1, 1])
         self.assertEqual(list(zip(flows.is_reply, flows.part))[1:], [(False, OPENER), (True, OTHER), (False, OTHER)])
-        self.assertEqual(flows.all[1].answered, 2)
+        self.assertEqual(flows.answered[1], 2)
 
     def test_a_flow_ends_when_its_idle_limit_passes(self) -> None:
         self.assertEqual(list(self.flows(1, 300).of), [0, 1, 1])

@@ -84,7 +84,7 @@ def about_flow(why: Why) -> list[str]:
     if not flow:
         return []
     of = flows.all[flow]
-    first = of.first
+    first = flows.first[of.number]
     if why.wanted is not None and why.is_reply:
         return ["Linux gave this flow another external port than a run does, so the answer finds no connection: "
                 "nftrun align makes such a capture fit"]

@@ -25,6 +25,7 @@ IPV4, IPV6 = b"\x08\x00", b"\x86\xdd"
 TO_US, BROADCAST, MULTICAST, OTHER_STATION, SENT_BY_US = range(5)
 
 FILE_HEADER, RECORD_HEADER = 24, 16
+LENGTH = 2  # its place in a record's header
 SNAPLEN = 262144
 # Stands in the header's field `sigfigs`, which readers ignore: answers were sent to nftrun's ports.
 ALIGNED_MARK = int.from_bytes(b"alig", "big")
@@ -119,6 +120,14 @@ def records(path: str, most: int = SNAPLEN) -> Iterator[Record]:
             number += 1
             yield (number, seconds, fraction, base + start, length, original,
                    piece[start:start + (length if length <= most else most)])
+
+
+def frames(path: str, most: int = SNAPLEN) -> Iterator[bytes]:
+    """The first `most` bytes of each whole record in order, and nothing else of them: `records` takes twice as long."""
+    for piece, _, starts, headers in pieces(path):
+        for start, header in zip(starts, headers):
+            length = header[LENGTH]
+            yield piece[start:start + (length if length <= most else most)]
 
 
 def is_torn(path: str, end: int) -> bool:

@@ -288,7 +288,7 @@ class Checkup:
     def of_answers(self) -> Iterator[Finding]:
         flows = self.flows
         begun = [flow for flow in flows.some() if flow.kind == TCP and flow.has_begun]
-        unanswered = sum(not flow.answered for flow in begun)
+        unanswered = sum(not flows.answered[flow.number] for flow in begun)
         if len(begun) >= FEW_FLOWS and unanswered > 0.9 * len(begun):
             yield Finding("one direction", True, f"{unanswered} of {plural(len(begun), 'TCP flow')} without any answer",
                           "the other direction isn't in the capture, or isn't taken: capture on all interfaces "

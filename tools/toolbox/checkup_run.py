@@ -8,7 +8,7 @@ from toolbox.checkup import MOST_LISTED, Finding
 from toolbox.commands import plural
 from toolbox.flows import ERROR
 from toolbox.packets import TCP, address_text
-from toolbox.replay import LOCAL, PASSED
+from toolbox.replay import LOCAL, Through
 from toolbox.reports import Summary
 from toolbox.table import NANOSECONDS, Table, fullest, without_room
 
@@ -66,7 +66,8 @@ def of_new(delivered: Mapping[int, int]) -> Iterator[Finding]:
 
 def answered_by_box(flows: Flows) -> Counter[int]:
     """By flow how many packets came for the box itself, where the first answer is a copy of what it sent."""
-    answered = {flow.number for flow in flows.some() if flow.answered and not flows.of[flow.answered]}
+    answers = ((flow.number, flows.answered[flow.number]) for flow in flows.some())
+    answered = {number for number, answer in answers if answer and not flows.of[answer]}
     return Counter(flow for flow, is_reply, part in zip(flows.of, flows.is_reply, flows.part)
                    if flow in answered and not is_reply and part != ERROR)
 
@@ -75,10 +76,11 @@ def kept_new(flows: Flows, replay: Replay) -> Counter[int]:
     """By flow how many packets a run delivers to the box itself, where it has no answer to them."""
     delivered: Counter[int] = Counter()
     answered: set[int] = set()
+    through = frozenset(map(int, Through))
     for record, (flow, is_reply, part) in enumerate(zip(flows.of, flows.is_reply, flows.part)):
         if not flow or part == ERROR or flows.all[flow].is_own:
             continue
-        if is_reply and replay.outcomes[record] in (PASSED, LOCAL):
+        if is_reply and replay.outcomes[record] in through:
             answered.add(flow)
         elif replay.outcomes[record] == LOCAL:
             delivered[flow] += 1

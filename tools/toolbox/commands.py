@@ -3,6 +3,7 @@ from __future__ import annotations
 
 import argparse
 import contextlib
+import gc
 import io
 import os
 import re
@@ -13,6 +14,8 @@ from typing import Callable, Iterable, Iterator, NoReturn
 # TORN is nftrun's own status of a capture that ends within a record
 DONE, DIFFERS, REFUSED, TORN = 0, 1, 2, 7
 BY_SIGNAL = 128  # and the number of the signal that ended a command: 130 is Ctrl-C
+# objects behind which unused cycles are looked for: flows live to the end, so a search among them is in vain
+MOST_MADE = 100_000
 MOST_READ = 16 << 20  # bytes of a ruleset, a box file, a map of rules
 LONGEST_LINE = 1000  # of a remark, in characters
 ENDED_BY_SIGNALS = """A signal ends it with a status of 128 and the signal's number: 129 (a closed terminal), 130
@@ -152,6 +155,7 @@ def run_command(name: str, command: Callable[[], int]) -> None:
     for stream in (sys.stdout, sys.stderr):
         if isinstance(stream, io.TextIOWrapper):
             stream.reconfigure(encoding="utf-8", errors="surrogateescape", newline="\n")
+    gc.set_threshold(MOST_MADE)
     try:
         take_signals()
         status = command()

@@ -12,7 +12,7 @@ from toolbox.captures import LINK_LENGTHS, LINUX_SLL2, records
 from toolbox.packets import (
     ECHOES, PORTED, PROTOCOL_NAMES, TCP, UDP, address_text, describe, inverse, service_kind, service_of, service_port,
     source_of, without_ports)
-from toolbox.replay import LOCAL, NOT_SENT, PASSED, Cut
+from toolbox.replay import NOT_SENT, Cut, Through
 from toolbox.reports import Decision, event_of, events_of_some
 from toolbox.rulesets import TRANSLATIONS, read_ruleset
 
@@ -105,7 +105,11 @@ def differing(old: Replay, new: Replay) -> bytearray:
             and filecmp.cmp(old.files.leaving, new.files.leaving, shallow=False)):
         return what
     old_places, new_places = through_places(old), through_places(new)
+    as_new = same_outcomes(old, new)
     for record, left, leaves in zip(range(1, count + 1), old.leaving_packets(), new.leaving_packets()):
+        if (left == leaves and as_new[old.outcomes[record]] == new.outcomes[record]
+                and old.to[record] == new.to[record]):
+            continue
         is_sent, is_sent_now = old.to[record] != NOT_SENT, new.to[record] != NOT_SENT
         before = is_sent and old_places[old.outcomes[record]]
         after = is_sent_now and new_places[new.outcomes[record]]
@@ -124,6 +128,11 @@ def differing(old: Replay, new: Replay) -> bytearray:
     return what
 
 
+def same_outcomes(old: Replay, new: Replay) -> list[int | None]:
+    """By the number of an outcome of the old run that of the new one, or None where that doesn't have it."""
+    return [new.names.get(name) for name in [b"", *sorted(old.names, key=lambda name: old.names[name])]]
+
+
 def are_alike_but_ports(left: bytes | None, leaves: bytes | None) -> bool:
     """Whether two frames that left are by one interface, and one packet but for its ports."""
     return (left is not None and leaves is not None and left[:OUT_LINK] == leaves[:OUT_LINK]
@@ -132,7 +141,8 @@ def are_alike_but_ports(left: bytes | None, leaves: bytes | None) -> bool:
 
 def through_places(replay: Replay) -> list[int]:
     """By an outcome's number whether the packet went through, and how."""
-    return [{PASSED: PASSED, LOCAL: LOCAL}.get(number, 0) for number in range(len(replay.names) + 1)]
+    went_through = set(map(int, Through))
+    return [number if number in went_through else 0 for number in range(len(replay.names) + 1)]
 
 
 # Causes

@@ -6,6 +6,7 @@ what a first run made of it (`Flows.join`). Side 0 is that of the flow's first r
 """
 from __future__ import annotations
 
+import os
 from array import array
 from enum import IntEnum
 from typing import TYPE_CHECKING, Mapping, NamedTuple
@@ -34,6 +35,8 @@ class Part(IntEnum):
 # of the columns, which hold plain numbers; a name of the module is found faster than one of an enum
 OTHER, OPENER, SYN_ACK, ERROR = Part.OTHER, Part.OPENER, Part.SYN_ACK, Part.ERROR
 
+# of the flags of TCP: those that begin and end a connection, and those of the answer to its beginning
+SHOWN, ANSWERING = FIN | SYN | RST | ACK, SYN | ACK
 MOST_READ = 160  # bytes of a record that are looked at: all headers, also those within an ICMP error
 WINDOW = 4096  # how many packets may come between one and its outgoing copy
 MOST_ALIKE = 15  # packets of one identity that wait for their copies
@@ -45,43 +48,47 @@ FORGOTTEN = 30  # seconds after which Linux forgets the first kinds of connectio
 class Direction:
     """One side of a flow. `is_known`: it is known how its packets leave."""
 
-    __slots__ = "flow", "is_reply", "is_known"
+    __slots__ = "flow", "is_known"
+    is_reply = False
 
-    def __init__(self, flow: Flow, is_reply: bool) -> None:
-        self.flow, self.is_reply, self.is_known = flow, is_reply, False
+    def __init__(self, flow: Flow) -> None:
+        self.flow, self.is_known = flow, False
 
     @property
     def other(self) -> Direction:
-        return self.flow.original if self.is_reply else self.flow.reply
+        return self.flow.reply
 
     def seen_from(self, is_reply: bool | int) -> Direction:
         """This side of its flow for what is original to it, else the other."""
         return self.other if is_reply else self
 
 
+class Reply(Direction):
+    """The side that answers."""
+
+    __slots__ = ()
+    is_reply = True
+
+    @property
+    def other(self) -> Direction:
+        return self.flow.original
+
+
 class Flow:
-    """A flow: records that are numbered from 1, 0 where there is none. `first` is its first one, `answered` the first
-    answer, `acked` the client's first behind a SYN and ACK. `kind` is that of its tuples.
+    """A flow. `kind` is that of its tuples. Which of its records are its first ones stands in columns of `Flows`.
 
     `has_begun`: its beginning is in the capture. `is_translated`, `is_learned`: what Linux made of its tuple is
     another, is known. `saw_syn_ack`, `answered_midway`: of TCP, whether an answer came to a SYN, or to a flow without
-    one. `is_own`: the box began it itself. `is_joined`: its records are another flow's. `last` is its last second,
-    `begun_with` the number of its SYN, or -1."""
+    one. `is_own`: the box began it itself. `is_joined`: its records are another flow's. `last` is its last second."""
 
-    __slots__ = ("number", "kind", "first", "answered", "acked", "last", "begun_with", "original", "reply", "has_begun",
-                 "is_translated", "is_learned", "saw_syn_ack", "answered_midway", "is_own", "is_joined")
+    __slots__ = ("number", "kind", "last", "original", "reply", "has_begun", "is_translated", "is_learned",
+                 "saw_syn_ack", "answered_midway", "is_own", "is_joined")
 
-    def __init__(self, number: int, kind: int, first: int, last: int, begun_with: int = -1) -> None:
-        self.number, self.kind, self.first, self.last, self.begun_with = number, kind, first, last, begun_with
-        self.answered = self.acked = 0
-        self.original, self.reply = Direction(self, False), Direction(self, True)
+    def __init__(self, number: int, kind: int, last: int) -> None:
+        self.number, self.kind, self.last = number, kind, last
+        self.original, self.reply = Direction(self), Reply(self)
         self.has_begun = self.is_translated = self.is_learned = self.saw_syn_ack = False
         self.answered_midway = self.is_own = self.is_joined = False
-
-    def answer(self, record: int) -> None:
-        """Takes a record that turned out to be of the reply direction for an answer, if it is the first."""
-        if not 0 < self.answered <= record:
-            self.answered = record
 
 
 class Waiting(NamedTuple):
@@ -102,10 +109,12 @@ class Begun(NamedTuple):
 class Flows:
     """The flows of a capture, `all`, by their numbers (from 1; the first stands for none), and of each record its
     flow's number, side, part, tuple and place in the file. A capture has 10^6 records and more, so what is known of
-    records stands in columns with one meaning each, 18 bytes a record.
+    records stands in columns with one meaning each, 14 to 18 bytes a record.
 
     `of`, `is_reply`, `part`, `seen` and `offset` go by the record's number (from 1). `seen` is the place of the
-    record's tuple in `tuples`; of an ICMP error the tuple of the answer to the datagram in it. `copies` and `own` count
+    record's tuple in `tuples`; of an ICMP error the tuple of the answer to the datagram in it. `first`, `answered` and
+    `acked` go by the flow's number, and are records, 0 where there is none: its first one, the first answer, the
+    client's first behind a SYN and ACK; a number takes 4 bytes there, and 40 in an object. `copies` and `own` count
     outgoing copies, and those that no packet came for: the box's own. `torn` tells whether the capture ends within a
     record."""
 
@@ -113,10 +122,11 @@ class Flows:
         header = header_of(path)
         self.path, self.link_type, self.aligned, self.order = path, header.link_type, header.aligned, header.order
         self.at = LINK_LENGTHS[header.link_type]
-        self.of, self.seen, self.offset = array("I", [0]), array("I", [0]), array("Q", [0])
+        self.of, self.seen, self.offset = array("I", [0]), array("I", [0]), array(places_of(path), [0])
         self.is_reply, self.part = bytearray(1), bytearray(1)
         self.tuples = [NO_TUPLE]
-        self.all = [Flow(0, 0, 0, 0)]
+        self.all = [Flow(0, 0, 0)]
+        self.first, self.answered, self.acked = array("I", [0]), array("I", [0]), array("I", [0])
         self.copies = self.own = 0
         self.end = FILE_HEADER  # of the last whole record, in the file
         # an aligned capture still has the ports that Linux chose in its copies
@@ -182,14 +192,19 @@ class Flows:
                 part[record] = OTHER
             self.put(record, direction)
         for record in range(1, self.count + 1):
-            if part[record] == OPENER and 0 < self.all[of[record]].answered <= record:
+            if part[record] == OPENER and 0 < self.answered[of[record]] <= record:
                 part[record] = OTHER  # what comes behind the answer opens nothing
 
     def put(self, record: int, direction: Direction) -> None:
         """Makes a record one of this side."""
         self.of[record], self.is_reply[record] = direction.flow.number, direction.is_reply
         if direction.is_reply:
-            direction.flow.answer(record)
+            self.answer(direction.flow, record)
+
+    def answer(self, flow: Flow, record: int) -> None:
+        """Takes a record that turned out to be of the reply direction for an answer, if it is the first."""
+        if not 0 < self.answered[flow.number] <= record:
+            self.answered[flow.number] = record
 
 
 class Reader:
@@ -208,6 +223,8 @@ class Reader:
         self.syns: dict[int, Begun] = {}  # by the number that acknowledges them, as `old_syns`
         self.old_syns: dict[int, Begun] = {}
         self.acknowledged: dict[int, int] = {}  # by a flow that begins with a SYN and ACK what that acknowledges
+        self.begun_with = array("q", [-1])  # by a flow the number of its SYN, or -1
+        self.answered, self.acked = flows.answered, flows.acked
         self.sweep_at = 1 << 16
 
     def read(self) -> None:
@@ -262,14 +279,15 @@ class Reader:
         kind = key[KIND]  # not by a call: it is asked of each packet
         is_tcp, flags = kind == TCP, 0
         if is_tcp:
-            flags = data[self.at + 4 * (data[self.at] & 15) + 13] & (FIN | SYN | RST | ACK)
+            at = self.at
+            flags = data[at + 4 * (data[at] & 15) + 13] & SHOWN
         place = self.find.get(key)
         came = (self.owner[place] if place else None) or self.by_inverse(key)
         if came and (flags == SYN or seconds - came.flow.last >= self.limits[kind]):
             came = self.still(came, seconds, key, flags, data)
-        if flags & (SYN | ACK) == SYN | ACK:
+        if flags & ANSWERING == ANSWERING:
             came = self.by_handshake(came, key, data)
-        if not came:
+        if came is None:
             came = self.begin(number, seconds, key, flags, data)
             place = self.find[key]
         elif place is None or self.owner[place] is not came:
@@ -278,7 +296,7 @@ class Reader:
         if self.use_copies and (not came.is_known or seconds - flow.last >= SURELY_KEPT):
             self.wait(data, Waiting(came, key, number))
         flow.last = seconds
-        if flow.acked if is_tcp else flow.answered:
+        if (self.acked if is_tcp else self.answered)[flow.number]:
             return came, 0, place
         return came, (self.part_of_tcp(number, came, flags) if is_tcp else self.part_of_other(number, came)), place
 
@@ -293,7 +311,7 @@ class Reader:
         number, or one that comes when the flow has expired."""
         if seconds - came.flow.last >= self.limits[kind_of(key)]:
             return None
-        if flags == SYN and came.flow.begun_with != sequence_of(data, self.at):
+        if flags == SYN and self.begun_with[came.flow.number] != sequence_of(data, self.at):
             return None
         return came
 
@@ -311,14 +329,14 @@ class Reader:
         if not flow.has_begun:
             return self.part_midway(number, came, flags)
         if not is_reply and flags == SYN:
-            return OTHER if flow.answered else OPENER
-        if not flow.answered:
-            flow.answered = number
-        if is_reply and flags & (SYN | ACK) == SYN | ACK:
+            return OTHER if self.answered[flow.number] else OPENER
+        if not self.answered[flow.number]:
+            self.answered[flow.number] = number
+        if is_reply and flags & ANSWERING == ANSWERING:
             flow.saw_syn_ack = True
             return SYN_ACK
         if not is_reply and flow.saw_syn_ack:
-            flow.acked = number
+            self.acked[flow.number] = number
         return OTHER
 
     def part_midway(self, number: int, came: Direction, flags: int) -> int:
@@ -331,14 +349,14 @@ class Reader:
             return OPENER
         if flags & RST:
             flow.has_begun = True
-            flow.answered = number
+            self.answered[flow.number] = number
         flow.answered_midway = True
         return OTHER
 
     def part_of_other(self, number: int, came: Direction) -> int:
         if not came.is_reply:
             return OPENER
-        came.flow.answered = number
+        self.answered[came.flow.number] = number
         return OTHER
 
     def enter_error(self, number: int, data: bytes) -> tuple[Direction | None, int, int]:
@@ -353,38 +371,47 @@ class Reader:
         if self.use_copies:
             self.wait(data, Waiting(about, key, number))
         # where it is about none, a run may tell to which flow it belongs
-        if about and about.is_reply and not about.flow.answered:
-            about.flow.answered = number
+        if about and about.is_reply and not self.answered[about.flow.number]:
+            self.answered[about.flow.number] = number
         return about, ERROR, place
 
     def begin(self, number: int, seconds: int, key: bytes, flags: int, data: bytes) -> Direction:
         """Begins a flow; whatever had its tuple, or the inverse, hasn't any longer."""
         begun_with = sequence_of(data, self.at) if flags == SYN else -1
-        flow = Flow(len(self.flows.all), kind_of(key), number, seconds, begun_with)
+        flow = self.new_flow(kind_of(key), number, seconds, begun_with)
         flow.has_begun = flow.kind != TCP or flags == SYN
-        self.flows.all.append(flow)
         place = self.find.get(key)
         before = self.owner[place] if place else None
         if before:
             before.flow.original.is_known = before.flow.reply.is_known = False
         self.find.pop(inverse(key), None)
         self.place_of(key, flow.original)
-        if flags & (SYN | ACK) == SYN | ACK:
+        if flags & ANSWERING == ANSWERING:
             self.acknowledged[flow.number] = sequence_of(data, self.at, 8)
         if flags == SYN:
-            self.syns[flow.begun_with + 1 & 0xFFFFFFFF] = Begun(flow, key)
+            self.syns[begun_with + 1 & 0xFFFFFFFF] = Begun(flow, key)
             if len(self.syns) > WINDOW:
                 self.old_syns, self.syns = self.syns, {}
         if len(self.find) > self.sweep_at:
             self.sweep(seconds)
         return flow.original
 
+    def new_flow(self, kind: int, first: int, seconds: int, begun_with: int) -> Flow:
+        flows = self.flows
+        flow = Flow(len(flows.all), kind, seconds)
+        flows.all.append(flow)
+        flows.first.append(first)
+        self.answered.append(0)
+        self.acked.append(0)
+        self.begun_with.append(begun_with)
+        return flow
+
     def by_handshake(self, came: Direction | None, key: bytes, data: bytes) -> Direction | None:
         """The side of a SYN and ACK: of its tuple (None if that isn't known), or if that one began with another SYN, by
         the SYN that it acknowledges, if one end is the same. None if it answers another SYN than the flow of its
         tuple."""
         acknowledged = sequence_of(data, self.at, 8)
-        if came and acknowledged == came.flow.begun_with + 1 & 0xFFFFFFFF:
+        if came and acknowledged == self.begun_with[came.flow.number] + 1 & 0xFFFFFFFF:
             return came
         begun = self.syns.get(acknowledged) or self.old_syns.get(acknowledged)
         if begun and has_common_end(begun.key, key):
@@ -425,8 +452,8 @@ class Reader:
             owner.flow.last = seconds
         elif answers and not self.is_taken_over(key, seconds, data):
             # an answer of the box itself
-            if answers.is_reply and not answers.flow.answered:
-                answers.flow.answered = number
+            if answers.is_reply and not self.answered[answers.flow.number]:
+                self.answered[answers.flow.number] = number
         elif answers or place is None:
             # a question of the box's own: the answers to it begin nothing
             flow = self.begin(number, seconds, key, 0, data).flow
@@ -439,7 +466,8 @@ class Reader:
         if not before:
             return False
         if kind_of(key) == TCP:
-            return is_lone_syn(data, self.at, key) and before.flow.begun_with != sequence_of(data, self.at)
+            begun_with = self.begun_with[before.flow.number]
+            return is_lone_syn(data, self.at, key) and begun_with != sequence_of(data, self.at)
         return seconds - before.flow.last >= FORGOTTEN
 
     def leave_error(self, data: bytes) -> None:
@@ -450,9 +478,10 @@ class Reader:
 
     def learn(self, key: bytes, seconds: int, came: Waiting) -> None:
         """A packet left with the tuple `key`: what answers it belongs to its flow."""
-        direction, inverted = came.direction, inverse(key)
+        direction = came.direction
         if direction is None:
             return
+        inverted = inverse(key)
         if key != came.key:
             direction = self.adopted(direction, came, seconds, inverted)
             direction.flow.is_translated = True
@@ -479,7 +508,8 @@ class Reader:
         the port of one flow to another."""
         flows, flow, place = self.flows, direction.flow, self.find.get(inverted)
         other = self.owner[place] if place else None
-        if (not other or other.flow is flow or flow.first != came.record or flow.begun_with >= 0
+        if (not other or other.flow is flow or flows.first[flow.number] != came.record
+                or self.begun_with[flow.number] >= 0
                 or other.flow.is_own or other.other.is_known
                 or seconds - other.flow.last >= self.limits[kind_of(inverted)]):
             return direction
@@ -487,8 +517,8 @@ class Reader:
         self.place_of(came.key, side)
         flows.of[record], flows.is_reply[record], flows.part[record] = side.flow.number, side.is_reply, OTHER
         side.flow.last = seconds
-        if side.is_reply and not side.flow.answered:
-            side.flow.answered = record
+        if side.is_reply and not self.answered[side.flow.number]:
+            self.answered[side.flow.number] = record
         return side
 
     def sweep(self, seconds: int) -> None:
@@ -499,6 +529,11 @@ class Reader:
         self.sweep_at = max(1 << 16, 2 * len(self.find))
 
 
+def places_of(path: str) -> str:
+    """The type of numbers that places in this file have in an array."""
+    return "I" if os.path.getsize(path) >> 32 == 0 else "Q"
+
+
 def sequence_of(data: bytes, at: int, place: int = 4) -> int:
     """The sequence number of TCP; 8 bytes behind its beginning stands the acknowledgement number."""
     behind = at + 4 * (data[at] & 15) + place
@@ -507,7 +542,7 @@ def sequence_of(data: bytes, at: int, place: int = 4) -> int:
 
 def is_lone_syn(data: bytes, at: int, key: bytes) -> bool:
     """Whether a packet, whose tuple this is, begins a connection of TCP."""
-    return kind_of(key) == TCP and data[at + 4 * (data[at] & 15) + 13] & (FIN | SYN | RST | ACK) == SYN
+    return key[KIND] == TCP and data[at + 4 * (data[at] & 15) + 13] & SHOWN == SYN
 
 
 def has_common_end(asked: bytes, answer: bytes) -> bool:

@@ -6,7 +6,8 @@ from itertools import islice
 from typing import TYPE_CHECKING, Callable, Dict, Iterator, Tuple, TypeVar
 
 from toolbox.captures import (
-    BROADCAST, LINK_LENGTHS, LINUX_SLL2, MULTICAST, OTHER_STATION, SENT_BY_US, header_of, packet_at, records)
+    BROADCAST, LINK_LENGTHS, LINUX_SLL2, MULTICAST, OTHER_STATION, SENT_BY_US, frames, header_of, packet_at,
+    records)
 from toolbox.flows import ERROR, MOST_READ
 from toolbox.packets import (
     ASK, ECHO_REPLY, ECHO_REQUEST, ECHOES, ICMP, PORTED, PROTOCOL_NAMES, TCP, UDP, address_text, destination_of,
@@ -149,7 +150,7 @@ class RecordTexts:
         """The lines in order, by the packets that left and the report."""
         flows, link_type, digits = self.flows, self.header.link_type, len(str(self.header.fractions)) - 1
         packet_text, names, came, told, outcomes = self.packets.text, self.names, self.came, self.events, self.outcomes
-        frames, all_flows = (record[6] for record in records(leaving, MOST_READ)), flows.all
+        sent, all_flows = frames(leaving, MOST_READ), flows.all
         columns = (islice(numbers, 1, None) for numbers in (flows.of, flows.is_reply, flows.part, flows.seen))
         for (number, seconds, fraction, _, _, _, data), (events, outcome), (flow, is_reply, part, place) in zip(
                 records(flows.path, MOST_READ), traced_records(report), zip(*columns)):
@@ -160,7 +161,7 @@ class RecordTexts:
                 before = packet_text(data, packet_at(data, link_type))
             after = left_by = "null"
             if outcome == b"passed":
-                frame = next(frames)
+                frame = next(sent)
                 after, left_by = packet_text(frame, OUT_LINK), names[frame[4:8]]
             ended = outcomes[outcome]
             if outcome == b"link" and link_type == LINUX_SLL2:

@@ -19,6 +19,7 @@ NOT_WHOLE = 0x3FFF  # of flags and offset: what is set in a fragment
 usual_parts = cast("Callable[[bytes, int], tuple[int, int, int, bytes]]", struct.Struct(">B5xHxB2x12s").unpack_from)
 ASK, ANSWER = ECHOES = 1, 255  # kinds that are no protocol's number
 ASK_BYTE, ANSWER_BYTE, TCP_BYTE, UDP_BYTE = bytes([ASK]), bytes([ANSWER]), bytes([TCP]), bytes([UDP])
+PORT_BYTES = {TCP: TCP_BYTE, UDP: UDP_BYTE}
 # a tuple's parts: source, destination, source port, destination port, kind
 PARTS = struct.Struct("4s4s2s2sB")
 parts_of = cast("Callable[[bytes], tuple[bytes, bytes, bytes, bytes, int]]", PARTS.unpack)
@@ -47,11 +48,8 @@ def tuple_at(data: bytes, at: int, cut: bool = False) -> bytes | None:
     size = len(data)
     if size >= at + 34:
         version, fragment, protocol, ends = usual_parts(data, at)
-        if version == USUAL_HEADER and not fragment & NOT_WHOLE:
-            if protocol == TCP:
-                return ends + TCP_BYTE
-            if protocol == UDP:
-                return ends + UDP_BYTE
+        if version == USUAL_HEADER and protocol in PORT_BYTES and not fragment & NOT_WHOLE:
+            return ends + PORT_BYTES[protocol]
     if size < at + 24 or data[at] >> 4 != 4 or data[at + 6] & 0x3F or data[at + 7]:
         return None
     protocol, behind = data[at + 9], at + 4 * (data[at] & 15)
@@ -191,9 +189,15 @@ def checksum(data: bytes) -> int:
     return total ^ 0xFFFF
 
 
+def sums_up(data: bytes) -> bool:
+    """Whether words, of which one is the checksum over the others and one isn't 0, have the checksum 0."""
+    # 65,536 is 1 modulo 65,535, so the words' sum is that of the whole as one number
+    return int.from_bytes(data, "big") % 0xFFFF == 0
+
+
 def corrected(check: Bytes, old: Bytes, new: Bytes) -> bytes:
     """The checksum over words that change from `old` to `new` (RFC 1624): a wrong one stays as wrong as it was."""
-    # 65,536 is 1 modulo 65,535, so the words' sum is that of the whole as one number
+    # by whole numbers, as in `sums_up`
     total = (int.from_bytes(check, "big") + int.from_bytes(old, "big") - int.from_bytes(new, "big")) % 0xFFFF
     return total.to_bytes(2, "big")
 

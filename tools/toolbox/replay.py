@@ -12,10 +12,11 @@ import shutil
 import struct
 from array import array
 from enum import IntEnum
+from itertools import islice
 from typing import TYPE_CHECKING, Iterator, List, Optional, Tuple
 
 from toolbox import program
-from toolbox.captures import LINK_LENGTHS, LINUX_SLL2, OTHER_STATION, RAW_IP, called, header_of, pieces, records
+from toolbox.captures import LINK_LENGTHS, LINUX_SLL2, OTHER_STATION, RAW_IP, called, frames, header_of, pieces
 from toolbox.commands import Refused
 from toolbox.flows import ERROR, OPENER, OTHER, SYN_ACK
 from toolbox.packets import TCP, destination_end, inverse, sent_tuples, source_end, with_destination
@@ -26,12 +27,28 @@ if TYPE_CHECKING:
 
 # Where a record goes: as it came, to an end (its place in `ends`, from 1), or nowhere
 AS_CAPTURED, NOT_SENT = 0, 0xFFFFFFFF
-PASSED, LOCAL = 1, 2  # as `outcomes_of` numbers them here
 OUT_LINK = LINK_LENGTHS[LINUX_SLL2]
 MOST_ROUNDS = 12
 # of the original side and of the reply, by the flow's number, a tuple
 Tuples = Tuple[List[Optional[bytes]], List[Optional[bytes]]]
 MOST_CHANGED = 2048  # bytes of a record within which its headers stand, or the whole datagram of an ICMP error
+
+
+class Through(IntEnum):
+    """What became of a packet that nothing dropped, as `outcomes` has it. Causes of drops have the numbers behind
+    these, as they come."""
+
+    PASSED = 1
+    LOCAL = 2
+
+    @property
+    def word(self) -> bytes:
+        """As a report has it."""
+        return self.name.lower().encode()
+
+
+# of columns, which hold plain numbers; a name of the module is found faster than one of an enum
+PASSED, LOCAL = Through.PASSED, Through.LOCAL
 
 
 class Cut(IntEnum):
@@ -63,7 +80,7 @@ class Replay:
                  spared: bytearray | None = None, like: Replay | None = None, as_captured: bool = False) -> None:
         self.program, self.rules, self.box, self.flows, self.files = path, rules, box, flows, files
         self.cuts, self.spared, self.as_captured = cuts, spared, as_captured
-        self.names = {b"passed": PASSED, b"local": LOCAL}
+        self.names = {one.word: int(one) for one in Through}
         self.to: array[int] = like.to if like else array("I", bytes(4 * (flows.count + 1)))
         self.ends: Ends = like.ends if like else Ends()
         self.cut = bytearray(flows.number() + 1)
@@ -118,9 +135,9 @@ class Replay:
 
     def leaving_packets(self) -> Iterator[bytes | None]:
         """Of each record in order (from 1) the frame that left, or None."""
-        leaving = records(self.files.leaving)
-        for outcome in self.outcomes[1:]:
-            yield next(leaving)[6] if outcome == PASSED else None
+        leaving, passed = frames(self.files.leaving), int(PASSED)
+        for outcome in islice(self.outcomes, 1, None):
+            yield next(leaving) if outcome == passed else None
 
     def redirected(self) -> list[int]:
         """The records that go to another end than they came with."""
@@ -225,12 +242,13 @@ class Decisions:
 
     def make(self) -> None:
         flows, next_left, cuts, joins = self.flows, self.left.__next__, self.cuts, self.joins
-        seen, tuples, all_flows = flows.seen, flows.tuples, flows.all
+        seen, tuples, all_flows, first = flows.seen, flows.tuples, flows.all, flows.first
         to, choice, left_as, fine = self.to, self.choice, self.left_as, self.fine
-        takes_out, error, opener, other = self.takes_out, int(ERROR), int(OPENER), int(OTHER)
+        takes_out, passed = self.takes_out, int(PASSED)
+        error, opener, other = int(ERROR), int(OPENER), int(OTHER)
         columns = zip(flows.of, flows.is_reply, flows.part, self.outcomes)
         for record, (number, side, part, outcome) in enumerate(columns):
-            left = next_left() if outcome == PASSED else None
+            left = next_left() if outcome == passed else None
             if not number:
                 if part and joins:
                     self.look_for_error(record)
@@ -252,7 +270,7 @@ class Decisions:
                 continue
             if part == error:
                 continue
-            if joins and flow.first == record:
+            if joins and first[number] == record:
                 self.look_for_join(record, number)
             if left is not None and left_as[side][number] != left:
                 self.learn(record, flow, side, left)
@@ -273,7 +291,7 @@ class Decisions:
             return False
         if self.cut[number]:
             return True
-        answered, acked = flow.answered, flow.acked
+        answered, acked = self.flows.answered[number], self.flows.acked[number]
         if answered and record >= answered and not (self.passed[number] or self.delivered[number]):
             self.cut[number] = Cut.STOPPED
         elif acked and record >= acked and flow.saw_syn_ack and not self.acknowledged[number]:

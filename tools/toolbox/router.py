@@ -302,7 +302,7 @@ class Router:
         """Whether a flow begins with a packet to an address of the box that the router sent on all the same, so soon
         that the translation may have begun before the capture."""
         flows = self.of
-        first = flow.first
+        first = flows.first[flow.number]
         limit = self.box.limits()[flow.kind]
         return (flow.kind != TCP and destination_of(flows.tuple_of(first)) in self.box.addresses
                 and flows.seconds(first) - flows.seconds(1) < limit)

@@ -55,7 +55,7 @@ class Why:
         if self.flow:
             self.members = [number for number, flow in enumerate(self.flows.of) if flow == self.flow]
         self.read_frames()
-        first = self.flows.all[self.flow].first if self.flow else record
+        first = self.flows.first[self.flow] if self.flow else record
         self.first_outcome = self.replay.outcome(first)
         decisions = self.replay.decide(False)
         # of the original side and the reply, by flow, the tuple with which its last packet left
@@ -108,7 +108,7 @@ class Why:
         left_as, _ = self.left_as
         for flow, left in zip(self.flows.all, left_as):
             if left and kind_of(left) == kind_of(self.key) and source_end(left) == outside:
-                inside = source_end(self.flows.tuple_of(flow.first))
+                inside = source_end(self.flows.tuple_of(self.flows.first[flow.number]))
                 return inside if inside != outside else None
         return None
 

@@ -5,7 +5,7 @@ from __future__ import annotations
 from dataclasses import dataclass
 from typing import TYPE_CHECKING, Iterator, Tuple
 
-from toolbox.packets import checksum, inverse, kind_of
+from toolbox.packets import inverse, kind_of, sums_up
 
 if TYPE_CHECKING:
     from toolbox.boxes import Box
@@ -124,8 +124,8 @@ class Mirror:
 
 def has_wrong_checksum(data: bytes, at: int) -> bool:
     """Whether an IPv4 header that is whole has another checksum than it should."""
-    length = 4 * (data[at] & 15)
-    return length >= 20 and len(data) >= at + length and checksum(data[at:at + length]) != 0
+    end = at + 4 * (data[at] & 15)
+    return end >= at + 20 and len(data) >= end and not sums_up(data[at:end])
 
 
 def jumps_of(clock: Clock) -> Iterator[Jump]:
