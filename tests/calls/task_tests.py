@@ -8,7 +8,8 @@ from typing import Sequence
 from calls import Answer
 from files import LONG, OLD, ROWS, contents
 from judge import Judge
-from rows import IN_HEADER, came
+from plain import IN_HEADER
+from rows import came
 
 # 2,000 rules of which only the last matches: it drops the first host's packets.
 DROPPING = "table ip t {{ chain c {{ type filter hook forward priority 0; {}ip saddr 192.168.1.10 drop\n}} }}".format(

@@ -6,7 +6,7 @@ from dataclasses import dataclass
 
 from captures import Reading, fault_of_out, placed, read_capture
 from damage import MOST, Case
-from rows import TOTALS
+from plain import TOTALS
 
 LINES = {
     0: r"",

@@ -7,12 +7,7 @@ from __future__ import annotations
 import struct
 from dataclasses import dataclass
 
-from rows import checksum
-
-UNITS = {0xA1B2C3D4: 1_000_000, 0xA1B23C4D: 1_000_000_000}
-LINKS = (1, 101, 276)
-SNAPLEN = 262_144
-OUT_HEADER = bytes.fromhex("4d3cb2a10200040000000000000000000000040014010000")
+from plain import LINKS, OUT_HEADER, SNAPLEN, UNITS, checksum
 
 
 @dataclass(frozen=True)

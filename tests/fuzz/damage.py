@@ -11,7 +11,8 @@ from typing import Callable, Sequence
 
 from captures import placed
 from files import ROWS, TOP, contents
-from rows import checksum, rows
+from plain import ETHERNET, LINUX_SLL2, MICROSECONDS, NANOSECONDS, RAW_IP, checksum
+from rows import rows
 
 MOST = 1_048_576
 NUMBERS = [0, 1, 2, 3, 15, 16, 17, 31, 32, 33, 63, 64, 127, 128, 255, 256, 1023, 1024, 16384, 16385, 32767, 32768]
@@ -28,7 +29,7 @@ EXTRA = (
     b" flags syn ack fin rst type code ttl tos dscp notrack elements interval flags constant ipv4_addr inet_service"
     b" inet_proto mark iface_index ifname verdict comment interface route default idle transitory established ask other"
 ).split(b" ")
-FIELDS = (0xA1B2C3D4, 0xA1B23C4D, 101, 1, 276, 999_999, 1_000_000, 999_999_999, 10**9)
+FIELDS = (MICROSECONDS, NANOSECONDS, RAW_IP, ETHERNET, LINUX_SLL2, 999_999, 1_000_000, 999_999_999, 10**9)
 # Where a packet is altered, and to what.
 PLACES = (0, 1, 2, 3, 6, 7, 8, 9, 9, 12, 15, 16, 19, 20, 21, 22, 23, 24, 25, 28, 29, 37, 41, 48, 49)
 OCTETS = (0, 1, 4, 5, 6, 8, 11, 17, 64, 127, 128, 255)

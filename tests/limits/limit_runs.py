@@ -5,26 +5,20 @@ import struct
 from typing import Iterator
 
 from limit_checks import BOX, chain, routes
-from sizes import FORWARD, HEADER, OUT_HEADER, UDP, End, Trial, Wanted, came, left, packet, totals
+from plain import NANOSECONDS, OUT_HEADER, RAW_IP, file_header, record
+from sizes import FORWARD, HEADER, UDP, End, Trial, Wanted, came, left, packet, totals
 
 # Its default is named by no line.
 NO_BOX = "default lan\n"
 # UDP from 192.168.1.10:5000 to 198.51.100.7:53 at 1.5 s, and as it leaves by interface 3 with TTL 63.
-PLAIN = struct.pack("<IIII", 1, 500_000, 28, 28) + bytes.fromhex(
-    "4500001c0001000040118ee3c0a8010ac63364071388003500080000"
-)
+PLAIN = record(bytes.fromhex("4500001c0001000040118ee3c0a8010ac63364071388003500080000"), 1, 500_000)
 # The same from 192.168.1.11.
-OTHER = struct.pack("<IIII", 1, 500_000, 28, 28) + bytes.fromhex(
-    "4500001c0001000040118ee2c0a8010bc63364071388003500080000"
-)
+OTHER = record(bytes.fromhex("4500001c0001000040118ee2c0a8010bc63364071388003500080000"), 1, 500_000)
 # The link's header of what leaves by interface 3.
 TO_WAN = bytes.fromhex("0800000000000003000104000000000000000000")
-PLAIN_OUT = struct.pack("<IIII", 1, 500_000_000, 48, 48) + TO_WAN + bytes.fromhex(
-    "4500001c000100003f118fe3c0a8010ac63364071388003500080000"
-)
-OTHER_OUT = struct.pack("<IIII", 1, 500_000_000, 48, 48) + TO_WAN + bytes.fromhex(
-    "4500001c000100003f118fe2c0a8010bc63364071388003500080000"
-)
+PLAIN_OUT, OTHER_OUT = (record(TO_WAN + bytes.fromhex(packet), 1, 500_000_000) for packet in (
+    "4500001c000100003f118fe3c0a8010ac63364071388003500080000",
+    "4500001c000100003f118fe2c0a8010bc63364071388003500080000"))
 
 
 def longest(ttl: int) -> bytes:
@@ -65,9 +59,9 @@ def of_many_packets() -> Iterator[Trial]:
 def of_longest_packets() -> Trial:
     """The longest packets, a nanosecond apart, of which what waits to be written holds one beside the end of
     another."""
-    header = struct.pack("<IHHIIII", 0xA1B23C4D, 2, 4, 0, 0, 0xFFFF, 101)
-    come = b"".join(struct.pack("<IIII", 0, moment, 65_535, 65_535) + longest(64) for moment in range(3))
-    leave = b"".join(struct.pack("<IIII", 0, moment, 65_555, 65_555) + TO_WAN + longest(63) for moment in range(3))
+    header = file_header(NANOSECONDS, 0xFFFF, RAW_IP)
+    come = b"".join(record(longest(64), 0, moment) for moment in range(3))
+    leave = b"".join(record(TO_WAN + longest(63), 0, moment) for moment in range(3))
     told = totals(records=3, passed=3, begun=1, live=1)
     return Trial("", BOX, header + come, Wanted(0, "", told, OUT_HEADER + leave))
 

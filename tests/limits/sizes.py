@@ -11,12 +11,9 @@ import struct
 from dataclasses import dataclass
 from typing import Callable, Iterable, Iterator, Sequence
 
-# Microseconds, LINKTYPE_RAW; and as it is written: nanoseconds, snaplen 262,144, LINKTYPE_LINUX_SLL2.
-HEADER = struct.pack("<IHHIIII", 0xA1B2C3D4, 2, 4, 0, 0, 0xFFFF, 101)
-OUT_HEADER = struct.pack("<IHHIIII", 0xA1B23C4D, 2, 4, 0, 0, 262_144, 276)
-TOTALS = """records passed local link interface notip short version hlen length truncated checksum fragment transport
-rule route ttl noport full clash begun live torn""".split()
+from plain import MICROSECONDS, OUT_HEADER, RAW_IP, TOTALS, file_header, record
 
+HEADER = file_header(MICROSECONDS, 0xFFFF, RAW_IP)
 BOX = "interface 2 lan 192.168.0.1/16\ninterface 3 wan 203.0.113.1/24\nroute 0.0.0.0/0 wan\ndefault lan\n"
 LAN, WAN = 2, 3
 TCP, UDP = 6, 17
@@ -58,8 +55,7 @@ class End:
 
 def totals(**counts: int) -> str:
     """The lines of a report's end; all that aren't named are 0."""
-    names = ((n if n in ("records", "passed", "local", "begun", "live", "torn") else f"drop {n}", n) for n in TOTALS)
-    return "".join(f"{name} {counts.get(n, 0)}\n" for name, n in names)
+    return "".join(f"{name} {counts.get(name.removeprefix('drop '), 0)}\n" for name in TOTALS)
 
 
 def dotted(address: int) -> str:
@@ -90,13 +86,12 @@ def udp(source: int, to: int = 53, ttl: int = 64) -> bytes:
 
 def came(content: bytes, second: int = 1) -> bytes:
     """The record of a packet as it comes."""
-    return struct.pack("<IIII", second, 0, len(content), len(content)) + content
+    return record(content, second)
 
 
 def left(content: bytes, interface: int = WAN, second: int = 1) -> bytes:
     """The record of a packet that leaves by this interface."""
-    whole = 20 + len(content)
-    return struct.pack("<IIIIIIHBBQ", second, 0, whole, whole, 8, interface << 24, 0x100, 4, 0, 0) + content
+    return record(struct.pack("<IIHBBQ", 8, interface << 24, 0x100, 4, 0, 0) + content, second)
 
 
 def passing(sources: Iterable[int]) -> bytes:
@@ -276,10 +271,10 @@ def many_tables() -> Trial:
     met = {1: [one for one in order if one.stage is not Stage.SOURCE or one <= end],
            2: [one for one in order if one.stage not in (Stage.DESTINATION, Stage.SOURCE)]}
     told = ""
-    for record, chains in met.items():
+    for number, chains in met.items():
         for one in chains:
-            told += f"trace {record} ip t{one.table} {one.name} " + ("1 snat\n" if one is end else "policy accept\n")
-        told += f"trace {record} outcome passed\n"
+            told += f"trace {number} ip t{one.table} {one.name} " + ("1 snat\n" if one is end else "policy accept\n")
+        told += f"trace {number} outcome passed\n"
     for n in range(TABLES):
         for chain in BASE_CHAINS:
             packets = sum((n, chain.name) == (one.table, one.name) for chains in met.values() for one in chains)

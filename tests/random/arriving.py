@@ -8,7 +8,8 @@ from dataclasses import dataclass
 
 from drawn import BOX, Drawing, TableDrawing
 from reading import Arrived, Run
-from rows import datagram, with_checksum
+from plain import with_checksum
+from rows import datagram
 from tracking import ECHO_REPLY, ECHO_REQUEST, ERRORS, ICMP, SECOND, TCP, UDP, End, Packet
 
 

@@ -10,7 +10,7 @@ from dataclasses import dataclass
 from typing import TYPE_CHECKING, Callable
 
 from ports import candidates
-from rows import ones_sum
+from plain import ones_sum
 from tracking import OF_REPLIES, OF_REQUESTS, OF_UDP, Belonging, Connections, End, Ends, Kind, Mapping
 
 if TYPE_CHECKING:

@@ -9,7 +9,8 @@ from typing import Iterator, Mapping, Sequence
 
 from files import ROWS, TOP, contents
 from outcomes import ENDS
-from rows import IN_HEADER, Row, came, rows
+from plain import IN_HEADER
+from rows import Row, came, rows
 
 # Rows of the gate by their files, all of a file where none is named.
 FEW: Mapping[str, Sequence[str]] = {"devices.rows": (), "errors.rows": ("an error to the source",)}

@@ -11,15 +11,11 @@ import struct
 from dataclasses import dataclass, replace
 from typing import Iterable, Iterator, Sequence, Union
 
-# Little endian, nanoseconds, version 2.4, LINKTYPE_LINUX_SLL2; of a capture that is read, and of OUT.
-IN_HEADER = struct.pack("<IHHIIII", 0xA1B23C4D, 2, 4, 0, 0, 65_535, 276)
-OUT_HEADER = struct.pack("<IHHIIII", 0xA1B23C4D, 2, 4, 0, 0, 262_144, 276)
+from plain import IN_HEADER, OUT_HEADER, TOTALS, with_checksum
+
 SECOND = 1_000_000_000
 INDEX = {"lan": 2, "wan": 3}
 BITS = {"F": 1, "S": 2, "R": 4, "P": 8, "A": 16, "U": 32}
-CAUSES = """link interface notip short version hlen length truncated checksum fragment transport
-rule route ttl noport full clash"""
-TOTALS = ["records", "passed", "local", *(f"drop {cause}" for cause in CAUSES.split()), "begun", "live", "torn"]
 LAN = bytes((192, 168, 1))  # what leaves by `lan` begins so
 
 
@@ -122,25 +118,6 @@ class Words:
 
 
 # ---- packets
-
-def ones_sum(data: bytes) -> int:
-    """The ones' complement sum of the words (RFC 1071)."""
-    data += b"\0" * (len(data) % 2)
-    total: int = sum(struct.unpack(f">{len(data) // 2}H", data))
-    while total > 0xFFFF:
-        total = (total & 0xFFFF) + (total >> 16)
-    return total
-
-
-def checksum(data: bytes) -> int:
-    """What makes the sum of the words right."""
-    return 0xFFFF - ones_sum(data)
-
-
-def with_checksum(data: bytes, at: int, covered: bytes = b"") -> bytes:
-    """The data with its checksum, which covers this too, at that place."""
-    return data[:at] + struct.pack(">H", checksum(covered + data)) + data[at + 2:]
-
 
 def datagram(protocol: int, source: bytes, destination: bytes, load: bytes, ttl: int = 64) -> bytes:
     """An IPv4 datagram with a header of 20 bytes (RFC 791, section 3.1)."""

@@ -1,7 +1,7 @@
 """Packets with nothing special about them, and captures of them, by numbers: what generators and measurements share.
 
-What judges runs by itself (tests/random/reading.py, and tests/shared/rows.py below it; tests/limits/sizes.py) doesn't
-stand on this.
+What judges runs by itself stands on tests/shared/plain.py instead: tests/random/reading.py and rows.py below it,
+tests/limits, the fuzzer.
 """
 from __future__ import annotations
 
