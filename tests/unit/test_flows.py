@@ -52,6 +52,14 @@ class OfRouter(FilesCase):
         self.assertEqual(flows.without_beginning(), 0)
         self.assertEqual([flow.number for flow in flows.some()], [1, 2, 3, 4])
 
+    def test_the_first_answer_is_the_earliest_record(self) -> None:
+        flows = self.flows
+        first = flows.all[1]
+        flows.answer(first, 5)
+        self.assertEqual(flows.answered[1], 3)
+        flows.answer(first, 2)
+        self.assertEqual(flows.answered[1], 2)
+
     def test_tuples(self) -> None:
         self.assertEqual(packets.tuple_text(self.flows.tuple_of(3)), "tcp 198.51.100.7:443 > 203.0.113.1:50000")
         self.assertEqual(packets.tuple_text(self.flows.tuple_of(11)), "udp 198.51.100.7:53 > 203.0.113.1:61000")
