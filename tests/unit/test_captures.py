@@ -29,6 +29,20 @@ class Reading(FilesCase):
             self.assertEqual(length, original)
         self.assertEqual(len(list(captures.records(self.capture("b", STATION), most=14))[0][6]), 14)
 
+    def test_places_in_a_file_of_several_pieces(self) -> None:
+        path = self.file("in.pcap", "")
+        with open(path, "wb") as file:
+            captures.write_header(file)
+            for number in range(200):
+                captures.write_record(file, number, bytes([number]) * 1000)
+        with open(path, "rb") as file:
+            whole = file.read()
+        self.assertGreater(len(whole), 2 * captures.CHUNK)
+        places = [(offset, data) for _, _, _, offset, _, _, data in captures.records(path)]
+        self.assertEqual([whole[offset:offset + 1000] for offset, _ in places], [data for _, data in places])
+        self.assertEqual(list(captures.frames(path)), [data for _, data in places])
+        self.assertEqual(list(captures.frames(path, 3)), [data[:3] for _, data in places])
+
     def test_link_headers(self) -> None:
         first = list(captures.records(self.capture("a", ROUTER)))
         self.assertEqual(captures.packet_at(first[0][6], 276), 20)
