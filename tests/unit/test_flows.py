@@ -60,6 +60,13 @@ class OfRouter(FilesCase):
         flows.answer(first, 2)
         self.assertEqual(flows.answered[1], 2)
 
+    def test_a_torn_end(self) -> None:
+        self.assertFalse(self.flows.torn)
+        with open(self.path, "rb") as file:
+            whole = file.read()
+        torn = Flows(self.file("torn.pcap", whole[:-1]), self.box)
+        self.assertEqual((torn.torn, torn.count), (True, 13))
+
     def test_tuples(self) -> None:
         self.assertEqual(packets.tuple_text(self.flows.tuple_of(3)), "tcp 198.51.100.7:443 > 203.0.113.1:50000")
         self.assertEqual(packets.tuple_text(self.flows.tuple_of(11)), "udp 198.51.100.7:53 > 203.0.113.1:61000")
