@@ -419,7 +419,12 @@ class Mapping_(PartsCase):
                 'iifname "lan" ip daddr { 192.168.1.1 } accept', 'iifname "wan" ip daddr { 203.0.113.1 } accept'],
             'fib saddr oif "lan" accept': [NEVER + " accept"],
         })
-        self.assertEqual(len(self.rules("fib saddr . iif oif missing drop")), 2)
+        # a route leads back by the interface: the hosts of lan, without the box's own address, and all others by wan
+        lan, wan = "192.168.1.0, 192.168.1.2-192.168.1.255", (
+            "0.0.0.0-126.255.255.255, 128.0.0.0-192.168.0.255, 192.168.2.0-203.0.113.0, 203.0.113.2-255.255.255.255")
+        for word, sign in (("exists", ""), ("missing", "!= ")):
+            self.check({f"fib saddr . iif oif {word} drop": [
+                f'iifname "lan" ip saddr {sign}{{ {lan} }} drop', f'iifname "wan" ip saddr {sign}{{ {wan} }} drop']})
         self.check_refused({"fib daddr type strange accept": "fib .. type strange"})
 
     def test_translation(self) -> None:

@@ -39,6 +39,13 @@ class Reading(unittest.TestCase):
         self.assertEqual(self.ruleset.text_of("inet filter other", None), "policy")
         self.assertEqual(self.ruleset.text_of("inet filter other", 9), "rule 9")
 
+    def test_what_is_no_rule_or_statement(self) -> None:
+        head = 'comment "of it"; type filter hook input priority 0'
+        text = f"table ip t {{ chain log {{ }}; chain c {{ {head}; jump log; drop }} }}"
+        first, second = Ruleset(text).rules
+        self.assertEqual((first.place, first.text, first.logs), (("ip t c", 1), "jump log", False))
+        self.assertEqual((second.place, second.text), (("ip t c", 2), "drop"))
+
     def test_heads(self) -> None:
         chain = self.ruleset.by_name["inet filter input"]
         self.assertEqual((chain.type, chain.hook, chain.priority, chain.policy), ("filter", "input", -10, "drop"))
