@@ -409,6 +409,11 @@ class Mapping_(PartsCase):
             "ip saddr vmap { 10.0.0.1 : 5 }": "a verdict where a value is wanted",
         })
 
+    def test_one_flag_in_braces(self) -> None:
+        # nft takes them for the flag alone: without `!=` it is set, with it the flags are others than this one alone
+        self.check({"tcp flags { syn } accept": ["tcp flags syn accept"],
+                    "tcp flags != { syn } accept": ["tcp flags & 0xff != syn accept"]})
+
     def test_routes(self) -> None:
         self.check({
             "fib daddr type unicast accept": [

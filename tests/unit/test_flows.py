@@ -3,15 +3,16 @@ limits."""
 from __future__ import annotations
 
 import unittest
+from array import array
 from unittest import mock
 
 from made_elsewhere import PACKETS, ROUTER, STATION
 from support import BOX, LAN, WAN, FilesCase, capture_of, masquerade
 from toolbox import packets
 from toolbox.boxes import Box
-from toolbox.captures import SENT_BY_US, TO_US
+from toolbox.captures import OTHER_STATION, SENT_BY_US, TO_US, frames
 from toolbox.flows import ERROR, OPENER, OTHER, SYN_ACK, Flows
-from toolbox.replay import AS_CAPTURED, NOT_SENT, Files, Replay
+from toolbox.replay import AS_CAPTURED, NOT_SENT, Ends, Files, Plan, Replay
 
 
 class OfRouter(FilesCase):
@@ -70,6 +71,18 @@ class OfRouter(FilesCase):
     def test_tuples(self) -> None:
         self.assertEqual(packets.tuple_text(self.flows.tuple_of(3)), "tcp 198.51.100.7:443 > 203.0.113.1:50000")
         self.assertEqual(packets.tuple_text(self.flows.tuple_of(11)), "udp 198.51.100.7:53 > 203.0.113.1:61000")
+
+    def test_what_is_written_to_be_replayed(self) -> None:
+        # a query that isn't sent is for another station then, an answer goes to another end, and all else stays
+        before, ends = list(frames(self.path)), Ends()
+        to = array("I", bytes(4 * 15))
+        to[9], to[11] = NOT_SENT, ends.number(bytes((203, 0, 113, 1)) + (40_000).to_bytes(2, "big"))
+        plan = Plan(self.flows, Files(str(self.folder), "run"))
+        after = list(frames(plan.write(to, ends)))
+        changed = [record for record, (old, new) in enumerate(zip(before, after), 1) if old != new]
+        self.assertEqual((changed, after[8][10], before[8][10]), ([9, 11], OTHER_STATION, TO_US))
+        self.assertEqual(after[8][:10] + after[8][11:], before[8][:10] + before[8][11:])
+        self.assertEqual(list(frames(plan.write(array("I", bytes(4 * 15)), ends))), before)
 
     def test_without_copies_the_answer_is_found_by_its_handshake(self) -> None:
         flows = Flows(self.path, self.box, use_copies=False)
