@@ -1,3 +1,5 @@
 mod Names
 mod Chains
 mod Paths
+mod Beginnings
+mod Answered

@@ -1,5 +1,5 @@
-use Rattle.run_laws.proofs.Answered.{list_obeys, ok_so}
-use Rattle.run_laws.proofs.connections_keep_the_laws.Goals as goal
+use Rattle.translation_laws.proofs.Answered.{list_obeys, ok_so}
+use Rattle.translation_laws.proofs.connections_keep_the_laws.Goals as goal
 
 pub returns : goal.returns
 returns g c = λ history is represents.

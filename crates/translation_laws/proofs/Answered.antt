@@ -9,7 +9,7 @@ use Rattle.stepping.specs.Next.{Next}
 use Rattle.stepping.specs.Representing.{EngineState, Represents, packet_of}
 use Rattle.translation_laws.specs.Laws.{LiveLaws, HistoryLaws}
 use Rattle.translation_laws.specs.Histories.{EntriesFollow, IsHistory, listed_at}
-use Rattle.run_laws.specs.Lawful.{StepKeepsLaws}
+use Rattle.translation_laws.specs.Lawful.{StepKeepsLaws}
 
 pub ok_so : {A E : Type 0} (answer : Result A E) (P Q : A → Type 0) → ((x : A) → P x → Q x) → IfOk answer P
     → IfOk answer Q

@@ -1,5 +1,5 @@
-use Rattle.run_laws.proofs.Beginnings.{at_each_beginning}
-use Rattle.run_laws.proofs.runs_keep_the_laws.Goals as goal
+use Rattle.translation_laws.proofs.Beginnings.{at_each_beginning}
+use Rattle.translation_laws.proofs.runs_keep_the_laws.Goals as goal
 
 pub returns-clause-whole : goal.returns-clause-whole
 returns-clause-whole c = λ rules box capture trace count torn old new old_report new_report wrote.

@@ -1,6 +1,6 @@
 use Rattle.stepping.specs.Representing.{recorded_of}
-use Rattle.run_laws.proofs.Answered.{ok_so, steps_so}
-use Rattle.run_laws.proofs.steps_keep_the_laws.Goals as goal
+use Rattle.translation_laws.proofs.Answered.{ok_so, steps_so}
+use Rattle.translation_laws.proofs.steps_keep_the_laws.Goals as goal
 
 pub returns : goal.returns
 returns g c = λ history is represents.

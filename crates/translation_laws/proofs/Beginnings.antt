@@ -6,7 +6,7 @@ use Rattle.history.specs.History.{Entry}
 use Rattle.stepping.specs.Next.{IsHistoryOf}
 use Rattle.translation_laws.specs.Laws.{HistoryLaws}
 use Rattle.translation_laws.specs.Histories.{IsHistory}
-use Rattle.run_laws.specs.Lawful.{AtEachPrefix}
+use Rattle.translation_laws.specs.Lawful.{AtEachPrefix}
 
 module _ (setup : Setup) where
   is_history_between : (first rest : List Recorded) (before after : List Entry)

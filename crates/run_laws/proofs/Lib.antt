@@ -1,2 +1,0 @@
-mod Beginnings
-mod Answered
