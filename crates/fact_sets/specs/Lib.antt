@@ -1,0 +1,4 @@
+pub mod Boxes
+pub mod Effects
+pub mod Facts
+pub mod steps

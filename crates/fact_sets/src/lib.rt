@@ -1,0 +1,18 @@
+//! What rules can read of a packet as bits, and each statement as sets of packets.
+#![tactic(auto)]
+
+mod cases;
+mod concatenations;
+mod interfaces;
+mod laws;
+mod layout;
+mod numbers;
+mod readings;
+mod tests;
+mod written;
+
+pub use cases::{Case, Outcome};
+pub use interfaces::Interfaces;
+pub use laws::{bits_are_kept, facts_have_bits};
+pub use readings::Reader;
+pub use written::{MarkSource, Written};
