@@ -1,7 +1,7 @@
 -- A rerun one record later.
 use Rattle.engine.proofs.Names.{EngineState, Entry, List, Replay, Represents, Setup, ap, length, live_in, subst, sym, ℕ, ◌∙◌, ◌∷◌, ◌≡◌}
 use Rattle.engine.specs.Fullest.{IsFullest}
-use Rattle.engine.specs.Rerunning.{RerunState, StandsBehind, StandsBehindNext}
+use Rattle.engine.specs.Rerunning.{RerunState, StandsBehindNext}
 use Rattle.engine.specs.declared.fullest.Fullest.{Fullest}
 use Rattle.engine.specs.steps.Replayed.{StepsLast}
 use Rattle.pcap_io.specs.CaptureStates.{CaptureState}

@@ -1,5 +1,5 @@
 -- A run of which one record is processed at a call (own).
-use Rattle.std.specs.Prelude.{◌≡◌, Bool, List, [], ◌∷◌, length, Option, IfSome}
+use Rattle.std.specs.Prelude.{Bool, List, ◌∷◌, IfSome}
 use Rattle.pcap_io.specs.CaptureStates.{CaptureState}
 use Rattle.history.specs.History.{Entry}
 use Rattle.stepping.specs.Next.{Next}

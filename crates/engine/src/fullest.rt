@@ -10,7 +10,7 @@ pub struct Fullest {
 }
 
 impl Fullest {
-    ghost use Rattle.std.specs.Prelude.{◌≡◌, ◌<◌, [], ◌∷◌, List, length};
+    ghost use Rattle.std.specs.Prelude.{◌≡◌, [], ◌∷◌, List, length};
     ghost use Rattle.history.specs.History.{Entry, live_in};
     ghost use Rattle.history.specs.Setup.{Setup};
     ghost use Rattle.engine.specs.Fullest.{IsFullest};

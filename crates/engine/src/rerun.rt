@@ -1,5 +1,5 @@
 //! A run that is stepped through, to look at its connections.
-ghost use Rattle.std.specs.Prelude.{◌≡◌, ◌≢◌, [], ◌∷◌, true, false, Ok, IfOk, OnOk, OnErr, IfErr, IfSome};
+ghost use Rattle.std.specs.Prelude.{◌≡◌, ◌≢◌, [], true, false, Ok, IfOk, IfErr, IfSome};
 ghost use Rattle.pcap_io.specs.CaptureStates.{NextAnswers, ahead, recorded};
 ghost use Rattle.engine.specs.Judged.{JudgeRefuses};
 ghost use Rattle.engine.specs.Meaning.{Accepted};

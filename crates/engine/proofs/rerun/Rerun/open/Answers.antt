@@ -1,4 +1,4 @@
-use Rattle.engine.proofs.Names.{EngineState, List, Represents, [], ap, arith, refl, subst, sym, ◌∙◌, ◌≤◌, ◌≡◌, ℕ}
+use Rattle.engine.proofs.Names.{EngineState, Represents, [], ap, arith, refl, subst, sym, ◌∙◌, ◌≡◌}
 use Rattle.engine.proofs.Meanings.{accepted_of}
 use Rattle.engine.proofs.rerun.Rerun.open.Goals as goal
 use Rattle.pcap_io.specs.CaptureStates.{CaptureState}
