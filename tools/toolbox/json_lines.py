@@ -10,8 +10,8 @@ from toolbox.captures import (
     records)
 from toolbox.flows import ERROR, MOST_READ
 from toolbox.packets import (
-    ASK, ECHO_REPLY, ECHO_REQUEST, ECHOES, ICMP, PORTED, PROTOCOL_NAMES, TCP, UDP, address_text, destination_of,
-    destination_port, error_tuple_at, identifier_of, inverse, kind_of, source_of, source_port, tuple_at)
+    ASK, ECHO_REPLY, ECHO_REQUEST, ECHOES, ICMP, KIND, PORTED, PROTOCOL_NAMES, TCP, UDP, address_text, destination_of,
+    destination_port, error_tuple_at, identifier_of, inverse, kind_of, numbered_parts, source_of, source_port, tuple_at)
 from toolbox.reports import Log, event_of, text_of, traced_records
 
 if TYPE_CHECKING:
@@ -108,24 +108,23 @@ class PacketTexts:
         self.echoes: Cache[Echo] = Cache(self.echo_text)
         self.addresses: Cache[bytes] = Cache(address_text)
 
-    def ends_text(self, protocol: str, key: bytes) -> str:
-        source, destination = self.addresses[source_of(key)], self.addresses[destination_of(key)]
-        return f'{{"protocol": "{protocol}", "saddr": "{source}", "daddr": "{destination}"'
-
     def ports_text(self, key: bytes) -> str:
-        return (f'{self.ends_text(PROTOCOL_NAMES[kind_of(key)], key)}, "sport": {source_port(key)}, '
-                f'"dport": {destination_port(key)}}}')
+        source, destination, sport, dport, kind = numbered_parts(key)
+        return (f'{{"protocol": "{PROTOCOL_NAMES[kind]}", "saddr": "{self.addresses[source]}", '
+                f'"daddr": "{self.addresses[destination]}", "sport": {sport}, "dport": {dport}}}')
 
     def echo_text(self, echo: Echo) -> str:
         key, code = echo
-        return (f'{self.ends_text("icmp", key)}, "type": {ECHO_REQUEST if kind_of(key) == ASK else ECHO_REPLY}, '
-                f'"code": {code}, "id": {identifier_of(key)}}}')
+        source, destination, asker, answerer, kind = numbered_parts(key)
+        told, identifier = (ECHO_REQUEST, asker) if kind == ASK else (ECHO_REPLY, answerer)
+        return (f'{{"protocol": "icmp", "saddr": "{self.addresses[source]}", "daddr": "{self.addresses[destination]}", '
+                f'"type": {told}, "code": {code}, "id": {identifier}}}')
 
     def text(self, data: bytes, at: int | None) -> str:
         key = None if at is None else tuple_at(data, at)
         if key is None or at is None:
             return json.dumps(packet_json(data, at))
-        kind = kind_of(key)
+        kind = key[KIND]
         if kind in PORTED:
             return self.kept[key]
         if kind in ECHOES and data[at + 9] == ICMP:
@@ -152,8 +151,8 @@ class RecordTexts:
         packet_text, names, came, told, outcomes = self.packets.text, self.names, self.came, self.events, self.outcomes
         sent, all_flows = frames(leaving, MOST_READ), flows.all
         columns = (islice(numbers, 1, None) for numbers in (flows.of, flows.is_reply, flows.part, flows.seen))
-        for (number, seconds, fraction, _, _, _, data), (events, outcome), (flow, is_reply, part, place) in zip(
-                records(flows.path, MOST_READ), traced_records(report), zip(*columns)):
+        for (number, seconds, fraction, _, _, _, data), (events, outcome), flow, is_reply, part, place in zip(
+                records(flows.path, MOST_READ), traced_records(report), *columns):
             came_by = names[data[4:8]] if link_type == LINUX_SLL2 else self.default
             if flow and all_flows[flow].kind in PORTED and part != ERROR:
                 before = came[place]

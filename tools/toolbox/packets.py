@@ -24,6 +24,8 @@ PORT_BYTES = {TCP: TCP_BYTE, UDP: UDP_BYTE}
 PARTS = struct.Struct("4s4s2s2sB")
 parts_of = cast("Callable[[bytes], tuple[bytes, bytes, bytes, bytes, int]]", PARTS.unpack)
 joined_parts: Callable[[bytes, bytes, bytes, bytes, int], bytes] = PARTS.pack
+# the same with its ports as numbers
+numbered_parts = cast("Callable[[bytes], tuple[bytes, bytes, int, int, int]]", struct.Struct(">4s4sHHB").unpack)
 # one part of a tuple: getters, since they are asked of each record, and a function of Python takes longer
 KIND = 12
 kind_of = cast("Callable[[bytes], int]", itemgetter(KIND))
