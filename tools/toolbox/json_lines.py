@@ -149,12 +149,13 @@ class RecordTexts:
         """The lines in order, by the packets that left and the report."""
         flows, link_type, digits = self.flows, self.header.link_type, len(str(self.header.fractions)) - 1
         packet_text, names, came, told, outcomes = self.packets.text, self.names, self.came, self.events, self.outcomes
+        is_sll2, ported, directions, default = link_type == LINUX_SLL2, PORTED, DIRECTIONS, self.default
         sent, all_flows = frames(leaving, MOST_READ), flows.all
         columns = (islice(numbers, 1, None) for numbers in (flows.of, flows.is_reply, flows.part, flows.seen))
         for (number, seconds, fraction, _, _, _, data), (events, outcome), flow, is_reply, part, place in zip(
                 records(flows.path, MOST_READ), traced_records(report), *columns):
-            came_by = names[data[4:8]] if link_type == LINUX_SLL2 else self.default
-            if flow and all_flows[flow].kind in PORTED and part != ERROR:
+            came_by = names[data[4:8]] if is_sll2 else default
+            if flow and part != ERROR and all_flows[flow].kind in ported:
                 before = came[place]
             else:
                 before = packet_text(data, packet_at(data, link_type))
@@ -163,9 +164,9 @@ class RecordTexts:
                 frame = next(sent)
                 after, left_by = packet_text(frame, OUT_LINK), names[frame[4:8]]
             ended = outcomes[outcome]
-            if outcome == b"link" and link_type == LINUX_SLL2:
+            if is_sll2 and outcome == b"link":
                 ended += LINK_KINDS.get(data[10:11], "")
-            yield (f'{{"record": {number}, "time": {seconds}.{str(fraction).zfill(digits)}, "flow": {flow or "null"}, '
-                   f'"direction": {DIRECTIONS[is_reply] if flow else "null"}, "in": {came_by}, "before": {before}, '
+            yield (f'{{"record": {number}, "time": {seconds}.{fraction:0{digits}}, "flow": {flow or "null"}, '
+                   f'"direction": {directions[is_reply] if flow else "null"}, "in": {came_by}, "before": {before}, '
                    f'"events": {told[events] if events else "[]"}, "outcome": {ended}, "out": {left_by}, '
                    f'"after": {after}}}\n')
