@@ -13,8 +13,8 @@ ghost use Rattle.fact_sets.specs.Effects.{Decides, seen};
 ghost use Rattle.fact_sets.specs.steps.Picking.{Always, Picks, ReadsMarks, with_outcome};
 
 use crate::concatenations::Bound;
+use crate::ranges::{Test, fixed};
 use crate::readings::{Reader, present};
-use crate::tests::{Test, fixed};
 use crate::written::MarkSource;
 use nft_tree::{MarkField, Operator, Selector};
 use packet_sets::{Diagrams, PacketSet, SetError};

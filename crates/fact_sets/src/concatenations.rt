@@ -7,8 +7,8 @@ ghost use Rattle.rule_meaning.specs.Selectors.{joined_value, value};
 ghost use Rattle.fact_sets.specs.Effects.{seen};
 ghost use Rattle.fact_sets.specs.steps.Readings.{IsNarrow, bound_passes, is_beyond, is_past, joined_width, mark_meant};
 
+use crate::ranges::{Test, fixed};
 use crate::readings::Reader;
-use crate::tests::{Test, fixed};
 use crate::written::MarkSource;
 use nft_tree::Selector;
 use packet_sets::{Diagrams, PacketSet, SetError};

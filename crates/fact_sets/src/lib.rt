@@ -7,8 +7,8 @@ mod interfaces;
 mod laws;
 mod layout;
 mod numbers;
+mod ranges;
 mod readings;
-mod tests;
 mod written;
 
 pub use cases::{Case, Outcome};

@@ -10,7 +10,7 @@ ghost use Rattle.fact_sets.specs.steps.Readings.{field_of, is_present, mark_fiel
 use crate::interfaces::Interfaces;
 use crate::layout;
 use crate::numbers::Numbers;
-use crate::tests::{Test, fixed, passing};
+use crate::ranges::{Test, fixed, passing};
 use crate::written::{MarkSource, Written};
 use nft_tree::Selector;
 use packet_sets::{Diagrams, Field, PacketSet, SetError};

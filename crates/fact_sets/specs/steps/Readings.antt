@@ -11,8 +11,8 @@ use Rattle.fact_sets.specs.declared.numbers.Numbers.{Numbers}
 use Rattle.fact_sets.specs.declared.numbers.Numbers.TheVariants as numbers
 use Rattle.fact_sets.specs.declared.concatenations.Bound.{Bound}
 use Rattle.fact_sets.specs.declared.concatenations.Bound.TheVariants as bounds
-use Rattle.fact_sets.specs.declared.tests.Test.{Test}
-use Rattle.fact_sets.specs.declared.tests.Test.TheVariants as tests
+use Rattle.fact_sets.specs.declared.ranges.Test.{Test}
+use Rattle.fact_sets.specs.declared.ranges.Test.TheVariants as tests
 use Rattle.fact_sets.specs.declared.readings.Reader.{Reader}
 use Rattle.fact_sets.specs.steps.Interfaces.{AreNarrow}
 use Rattle.fact_sets.specs.declared.written.MarkSource.{MarkSource}

@@ -1,5 +1,5 @@
 use Rattle.fact_sets.proofs.FieldNumbers.{none_equal}
-use Rattle.fact_sets.proofs.tests.equal.Goals as goal
+use Rattle.fact_sets.proofs.ranges.equal.Goals as goal
 
 pub returns-else-fits-clause-value : goal.returns-else-fits-clause-value
 returns-else-fits-clause-value c =

@@ -2,7 +2,7 @@ use Rattle.std.proofs.Common.{ℕ, Bool, nat_le}
 use Rattle.fact_sets.specs.Facts.{number_in}
 use Rattle.fact_sets.proofs.SetLaws.{and_ok, keeps_trans, means_kept, ok_as}
 use Rattle.fact_sets.proofs.FieldNumbers.{one_within}
-use Rattle.fact_sets.proofs.tests.within.Goals as goal
+use Rattle.fact_sets.proofs.ranges.within.Goals as goal
 
 pub returns-then-low-high-clause-value : goal.returns-then-low-high-clause-value
 returns-then-low-high-clause-value c =

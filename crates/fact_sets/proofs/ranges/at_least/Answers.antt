@@ -1,5 +1,5 @@
 use Rattle.fact_sets.proofs.FieldNumbers.{none_least}
-use Rattle.fact_sets.proofs.tests.at_least.Goals as goal
+use Rattle.fact_sets.proofs.ranges.at_least.Goals as goal
 
 pub returns-else-fits-clause-value : goal.returns-else-fits-clause-value
 returns-else-fits-clause-value c =

@@ -3,8 +3,8 @@ use Rattle.fact_sets.specs.Facts.{number_in}
 use Rattle.fact_sets.specs.steps.Readings.{meant, test_passes}
 use Rattle.fact_sets.proofs.SetLaws.{keeps_trans}
 use Rattle.fact_sets.proofs.FieldNumbers.{all_numbers, none_more, one_more}
-use Rattle.fact_sets.proofs.tests.listed.Goals as goal
-use Rattle.fact_sets.proofs.tests.listed.Goals.{then-passes+in_ok-one+in_ok-set, else-passes}
+use Rattle.fact_sets.proofs.ranges.listed.Goals as goal
+use Rattle.fact_sets.proofs.ranges.listed.Goals.{then-passes+in_ok-one+in_ok-set, else-passes}
 
 pub returns-in_err-one-clause-keeps : goal.returns-in_err-one-clause-keeps
 returns-in_err-one-clause-keeps c =
