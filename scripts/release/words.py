@@ -5,7 +5,7 @@ import ast
 from dataclasses import dataclass
 from pathlib import Path
 
-PROGRAM_WORDS = ("check", "explain", "run")
+PROGRAM_WORDS = ("check", "explain", "reach", "run")
 # What a command reads of the folders of its modules, beside these.
 DATA = (".css", ".html", ".js", ".awk", ".json")
 

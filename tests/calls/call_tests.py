@@ -134,6 +134,8 @@ class CallTests(Judge):
                 return
             if kind == "announce":
                 wanted += "accepted tables {} chains {} rules {}\n".format(*rest.split())
+            elif kind == "reach" and not call.endswith(" in vain"):
+                wanted += self.data.texts["rules that can be met"]
             elif kind == "show":
                 wanted += self.data.text_of_code(rest)
         self.equal("standard output", wanted, printed)

@@ -49,7 +49,7 @@ class TaskTests(Judge):
         self.name = f"nftrun {line.question}".strip()
         kind, _, rest = line.answer.partition(" ")
         tasks = {"error:": self.try_refused, "prints": self.try_printed, "explain": self.try_code,
-                 "check": self.try_check, "run": self.try_run}
+                 "check": self.try_check, "reach": self.try_reach, "run": self.try_run}
         tasks[kind](line.question.split(), rest)
 
     def try_refused(self, words: Sequence[str], text: str) -> None:
@@ -84,6 +84,17 @@ class TaskTests(Judge):
         end = ["tell nftrun: rules N06", *(["list faults"] if is_all else [])]
         refused = Printed(1, "", f"nftrun: rules N06\n{faults}")
         self.check(words, paths, self.data.refused, refused, begin + end)
+
+    def try_reach(self, words: Sequence[str], task: str) -> None:
+        """Tells which rules of a ruleset can be met, and refuses another."""
+        rules, box = task.split()
+        paths = {"rules": rules, "box": box}
+        begin = self.data.lists["run"][:3]
+        met = Printed(0, self.data.texts["rules that can be met"], "")
+        self.check(words, paths, self.data.accepted, met, [*begin, "reach rules box"])
+        refused = Printed(1, "", "nftrun: rules N06\n")
+        end = ["reach rules box in vain", "tell nftrun: rules N06"]
+        self.check(words, paths, self.data.refused, refused, [*begin, *end])
 
     def check(self, words: Sequence[str], paths: dict[str, str], text: bytes, answer: Printed,
               wanted: Sequence[str]) -> None:

@@ -70,6 +70,17 @@ class AsJson(OfRun):
             "protocol": "udp", "saddr": "203.0.113.1", "daddr": "198.51.100.7", "sport": 61000, "dport": 53})
         self.assertIsNone(lines[12]["before"])
 
+    def test_lines_with_few_texts_kept(self) -> None:
+        replay = self.replay(self.rules)
+
+        def lines() -> list[str]:
+            texts = RecordTexts(replay.flows, self.box, Ruleset(RULES))
+            return list(texts.lines(replay.files.leaving, replay.files.report))
+
+        kept = lines()
+        with mock.patch("toolbox.json_lines.MOST_CACHED", 1):
+            self.assertEqual(lines(), kept)
+
     def test_parts(self) -> None:
         self.assertEqual(tuple_json(bytes(8) + b"\0\x05\0\0\x01"), {
             "protocol": "icmp", "saddr": "0.0.0.0", "daddr": "0.0.0.0", "type": 8, "id": 5})

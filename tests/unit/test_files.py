@@ -2,6 +2,7 @@
 from __future__ import annotations
 
 import unittest
+from unittest import mock
 
 from support import BOX, FilesCase
 from toolbox import commands, crafted, packets, reports
@@ -59,6 +60,23 @@ class Reports(FilesCase):
         self.assertEqual(summary.logs(), {reports.Log("inet f input", 1, "seen"): 1})
         self.assertEqual(summary.counters, [reports.RuleCounter("inet f input", 1, 1, 3, 180)])
         self.assertEqual((summary.totals["records"], dict(summary.outcomes)), (3, {"local": 1, "rule": 1, "passed": 1}))
+
+    def test_ending(self) -> None:
+        """An ending is what the whole report tells, wherever the pieces end in which it is read from behind."""
+        whole = reports.Summary(self.path)
+        for chunk in (1, 7, 40, 1 << 20):
+            with mock.patch("toolbox.reports.CHUNK", chunk):
+                ending = reports.Ending(self.path)
+                self.assertEqual((ending.counters, ending.totals), (whole.counters, whole.totals))
+
+    def test_ending_of_few_lines(self) -> None:
+        for text, totals in (("", {}), ("records 0\ntorn 0\n", {"records": 0, "torn": 0}),
+                             ("records 3\ntor", {"records": 3}), ("trace 1 outcome pas", {}),
+                             ("log 1 inet f input 1 a\nrecords 1\n", {"records": 1}),
+                             ("trace 1 outcome passed\n", {})):
+            self.assertEqual(reports.Ending(self.file("few.txt", text)).totals, totals)
+        with self.assertRaisesRegex(commands.Refused, "a line behind its records is none of a report: what"):
+            reports.Ending(self.file("few.txt", "trace 1 outcome passed\nwhat\n"))
 
     def test_records(self) -> None:
         found = list(reports.records_of(self.path))

@@ -6,12 +6,13 @@ from itertools import islice
 from typing import TYPE_CHECKING, Callable, Dict, Iterator, Tuple, TypeVar
 
 from toolbox.captures import (
-    BROADCAST, LINK_LENGTHS, LINUX_SLL2, MULTICAST, OTHER_STATION, SENT_BY_US, frames, header_of, packet_at,
+    BROADCAST, LENGTH, LINK_LENGTHS, LINUX_SLL2, MULTICAST, OTHER_STATION, SENT_BY_US, header_of, packet_at, pieces,
     records)
 from toolbox.flows import ERROR, MOST_READ
 from toolbox.packets import (
     ASK, ECHO_REPLY, ECHO_REQUEST, ECHOES, ICMP, KIND, PORTED, PROTOCOL_NAMES, TCP, UDP, address_text, destination_of,
-    destination_port, error_tuple_at, identifier_of, inverse, kind_of, numbered_parts, source_of, source_port, tuple_at)
+    destination_port, error_tuple_at, identifier_of, inverse, kind_of, numbered_parts, sent_tuples, source_of,
+    source_port, tuple_at)
 from toolbox.reports import Log, event_of, text_of, traced_records
 
 if TYPE_CHECKING:
@@ -20,11 +21,12 @@ if TYPE_CHECKING:
     from toolbox.rulesets import Ruleset
 
 DIRECTIONS = ('"original"', '"reply"')
-MOST_CACHED = 1 << 16
+MOST_CACHED = 1 << 14  # of 10^5 flows few are active at a time; texts take some 250 bytes each
 # what a record of LINUX_SLL2 is that was dropped for `link`, by its packet type
 LINK_KINDS = {bytes([kind]): f', "link": "{word}"' for kind, word in (
     (BROADCAST, "group"), (MULTICAST, "group"), (OTHER_STATION, "other station"), (SENT_BY_US, "copy"))}
 OUT_LINK = LINK_LENGTHS[LINUX_SLL2]
+NOT_LEFT = "null", "null"  # where a packet left, and as what
 
 
 Known = TypeVar("Known")
@@ -113,6 +115,10 @@ class PacketTexts:
         return (f'{{"protocol": "{PROTOCOL_NAMES[kind]}", "saddr": "{self.addresses[source]}", '
                 f'"daddr": "{self.addresses[destination]}", "sport": {sport}, "dport": {dport}}}')
 
+    def came_text(self, key: bytes) -> str:
+        """The text of a packet of TCP or UDP, by its tuple; nothing of others, of which the tuple doesn't tell all."""
+        return self.ports_text(key) if key[KIND] in PORTED else ""
+
     def echo_text(self, echo: Echo) -> str:
         key, code = echo
         source, destination, asker, answerer, kind = numbered_parts(key)
@@ -138,8 +144,8 @@ class RecordTexts:
     def __init__(self, flows: Flows, box: Box, ruleset: Ruleset) -> None:
         self.flows, self.header = flows, header_of(flows.path)
         self.events, self.packets = events_cache(ruleset), PacketTexts()
-        # of entering packets of TCP and UDP, by the place of their tuple
-        self.came: Cache[int] = Cache(lambda place: self.packets.ports_text(flows.tuples[place]))
+        # of entering packets, by the place of their tuple; nothing of those that aren't of TCP or UDP
+        self.came: Cache[int] = Cache(lambda place: self.packets.came_text(flows.tuples[place]))
         names = {index.to_bytes(4, "big"): name for index, name in box.names.items()}
         self.names: Cache[bytes] = Cache(lambda index: json.dumps(names.get(index, int.from_bytes(index, "big"))))
         self.outcomes: Cache[bytes] = Cache(lambda outcome: json.dumps(text_of(outcome)))
@@ -147,26 +153,32 @@ class RecordTexts:
 
     def lines(self, leaving: str, report: str) -> Iterator[str]:
         """The lines in order, by the packets that left and the report."""
-        flows, link_type, digits = self.flows, self.header.link_type, len(str(self.header.fractions)) - 1
+        flows, link_type, pad = self.flows, self.header.link_type, f"0{len(str(self.header.fractions)) - 1}"
         packet_text, names, came, told, outcomes = self.packets.text, self.names, self.came, self.events, self.outcomes
-        is_sll2, ported, directions, default = link_type == LINUX_SLL2, PORTED, DIRECTIONS, self.default
-        sent, all_flows = frames(leaving, MOST_READ), flows.all
+        is_sll2, directions, default, left = link_type == LINUX_SLL2, DIRECTIONS, self.default, self.left(leaving)
         columns = (islice(numbers, 1, None) for numbers in (flows.of, flows.is_reply, flows.part, flows.seen))
         for (number, seconds, fraction, _, _, _, data), (events, outcome), flow, is_reply, part, place in zip(
                 records(flows.path, MOST_READ), traced_records(report), *columns):
             came_by = names[data[4:8]] if is_sll2 else default
-            if flow and part != ERROR and all_flows[flow].kind in ported:
-                before = came[place]
-            else:
+            before = came[place] if flow and part != ERROR else ""
+            if not before:
                 before = packet_text(data, packet_at(data, link_type))
-            after = left_by = "null"
-            if outcome == b"passed":
-                frame = next(sent)
-                after, left_by = packet_text(frame, OUT_LINK), names[frame[4:8]]
+            left_by, after = next(left) if outcome == b"passed" else NOT_LEFT
             ended = outcomes[outcome]
             if is_sll2 and outcome == b"link":
                 ended += LINK_KINDS.get(data[10:11], "")
-            yield (f'{{"record": {number}, "time": {seconds}.{fraction:0{digits}}, "flow": {flow or "null"}, '
+            yield (f'{{"record": {number}, "time": {seconds}.{fraction:{pad}}, "flow": {flow or "null"}, '
                    f'"direction": {directions[is_reply] if flow else "null"}, "in": {came_by}, "before": {before}, '
                    f'"events": {told[events] if events else "[]"}, "outcome": {ended}, "out": {left_by}, '
                    f'"after": {after}}}\n')
+
+    def left(self, leaving: str) -> Iterator[tuple[str, str]]:
+        """Of each packet that left, the interface and the packet."""
+        names, packets, kept, ported = self.names, self.packets, self.packets.kept, PORTED
+        for piece, _, starts, headers in pieces(leaving):
+            for start, key, header in zip(starts, sent_tuples(piece, starts, OUT_LINK, MOST_READ), headers):
+                if key is not None and key[KIND] in ported:
+                    after = kept[key]
+                else:
+                    after = packets.text(piece[start:start + min(header[LENGTH], MOST_READ)], OUT_LINK)
+                yield names[piece[start + 4:start + 8]], after

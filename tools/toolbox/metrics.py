@@ -7,7 +7,7 @@ from typing import TYPE_CHECKING, Dict, Iterator, List, Mapping
 from toolbox.commands import printable
 
 if TYPE_CHECKING:
-    from toolbox.reports import Summary
+    from toolbox.reports import Totals
 
 DROPPED = "drop "
 THROUGH = ("passed", "local")
@@ -42,9 +42,9 @@ def escaped(value: str) -> str:
     return printable(value).replace("\\", "\\\\").replace('"', '\\"')
 
 
-def metrics_of(summary: Summary) -> Iterator[Metric]:
+def metrics_of(report: Totals) -> Iterator[Metric]:
     """The totals and counters of a report; those alone that it has."""
-    totals = summary.totals
+    totals = report.totals
     yield Metric("nftrun_complete", "Whether the run is whole and so is its capture.",
                  [Sample({}, int(totals.get("torn") == 0))])
     for name, total, text in (("nftrun_records", "records", "Records of the capture."),
@@ -55,7 +55,7 @@ def metrics_of(summary: Summary) -> Iterator[Metric]:
     outcomes = [Sample({"outcome": name.replace(DROPPED, "", 1)}, number) for name, number in totals.items()
                 if name in THROUGH or name.startswith(DROPPED)]
     packets, octets = list[Sample](), list[Sample]()
-    for counter in summary.counters:
+    for counter in report.counters:
         labels: Dict[str, str] = {"chain": counter.chain, "rule": str(counter.rule), "counter": str(counter.which)}
         packets.append(Sample(labels, counter.packets))
         octets.append(Sample(labels, counter.bytes))

@@ -1,6 +1,7 @@
 """Reports of nftrun run --trace (docs/SPEC.md, 9), streamed."""
 from __future__ import annotations
 
+import os
 import re
 from collections import Counter
 from dataclasses import dataclass
@@ -181,16 +182,57 @@ def event_in(line: bytes) -> bytes:
     return b"log " + what if word == b"log" else what
 
 
-class Summary:
+class Totals:
+    """The counters and totals of a report. `name` is what messages call it."""
+
+    def __init__(self, name: str) -> None:
+        self.name = name
+        self.counters: list[RuleCounter] = []
+        self.totals: dict[str, int] = {}
+
+    def take_total(self, line: bytes, which: str) -> None:
+        """Takes a line of one; `which` line of the report it is."""
+        parts = COUNTER.fullmatch(line)
+        if parts:
+            self.counters.append(RuleCounter(text_of(parts[1]), *map(int, parts.groups()[1:])))
+        elif TOTAL.fullmatch(line):
+            name, _, total = text_of(line).rpartition(" ")
+            self.totals[name] = int(total)
+        else:
+            raise Refused(f"{self.name}: {which} is none of a report: {text_of(line)}")
+
+
+class Ending(Totals):
+    """The counters and totals of a report that nftrun wrote, as what stands behind its records has them. Nothing
+    else is read of it: there are some 50 bytes and more for each record."""
+
+    def __init__(self, path: str) -> None:
+        super().__init__(path)
+        for line in behind_records(path).split(b"\n")[:-1]:
+            self.take_total(line, "a line behind its records")
+
+
+def behind_records(path: str) -> bytes:
+    """What stands behind the records of a report."""
+    text, read, last = b"", 0, -1
+    with open(path, "rb") as file:
+        size = file.seek(0, os.SEEK_END)
+        while last < 0 and read < size:
+            read = min(size, 2 * read + CHUNK)
+            file.seek(size - read)
+            text = (b"\n" if read == size else b"") + file.read()
+            last = max(text.rfind(b"\ntrace "), text.rfind(b"\nlog "))
+    return text[last + 1:].partition(b"\n")[2]
+
+
+class Summary(Totals):
     """What a report tells in all: how often each event, each outcome; its counters and totals. `name` is what messages
     call the report."""
 
     def __init__(self, path: str, name: str | None = None) -> None:
-        self.name = name or path
+        super().__init__(name or path)
         # what stands behind `trace N ` or `log N `, with that word
         self.counted: Counter[tuple[bytes, bytes]] = Counter()
-        self.counters: list[RuleCounter] = []
-        self.totals: dict[str, int] = {}
         rest, lines = b"", 0
         try:
             with open(path, "rb") as file:
@@ -221,17 +263,7 @@ class Summary:
         for line in lines.split(b"\n")[:-1]:
             number += 1
             if not EVENT.fullmatch(line):
-                self.take_total(line, number)
-
-    def take_total(self, line: bytes, number: int) -> None:
-        parts = COUNTER.fullmatch(line)
-        if parts:
-            self.counters.append(RuleCounter(text_of(parts[1]), *map(int, parts.groups()[1:])))
-        elif TOTAL.fullmatch(line):
-            name, _, total = text_of(line).rpartition(" ")
-            self.totals[name] = int(total)
-        else:
-            raise Refused(f"{self.name}: line {number} is none of a report: {text_of(line)}")
+                self.take_total(line, f"line {number}")
 
     def check_whole(self) -> None:
         """Refuses a report that broke off, or that was made without --trace."""

@@ -1,7 +1,7 @@
 -- The theorem of the command line: words that clap parses request the task that is made of its matches
 -- (`task_requested`), and words that are a task are never refused but for memory (`words_pass`).
 -- `Words` has the pass over the words of a subcommand, which finds what the definitions say, and `Parse` shows
--- that clap finds the same, for each command of one form; the three subcommands are such.
+-- that clap finds the same, for each command of one form; the four subcommands are such.
 use Rattle.std.proofs.Common.{◌==◌, ◌||◌, ◌∙◌, ◌∷◌, ◌≡◌, [], ℕ, Bool, List, None, Option, Some, ap, codes, cond, false, is_some, refl, rules, subst, sym, true, true≢false}
 use Rattle.std.proofs.Common.{arith, ◌&&◌, not, length, fold, map, option_map, option_and_then, slice_get, slice_index_or, bytes_eq}
 use Rattle.std.proofs.Math.Bool.{or-true}
@@ -23,12 +23,12 @@ use Rattle.std.specs.Borrow.{Bor}
 use Rattle.clap.specs.declared.error.Error.{Error}
 use Rattle.clap.specs.declared.parser.matches.ArgMatches.{ArgMatches}
 use Rattle.clap.specs.declared.parser.matches.Found.{Found}
-use Rattle.command_line.specs.CommandLine.{AreTexts, RequestsTask, are_operands, check_flags, explaining_by, explaining_in, has_flag, is_check, is_explain}
-use Rattle.command_line.specs.CommandLine.{is_run, is_well_formed, names_file, operands, report_of, run_flags, without_flags, without_report}
+use Rattle.command_line.specs.CommandLine.{AreTexts, RequestsTask, are_operands, check_flags, explaining_by, explaining_in, has_flag, is_check, is_explain, is_reach}
+use Rattle.command_line.specs.CommandLine.{is_run, is_well_formed, names_file, operands, reach_flags, report_of, run_flags, without_flags, without_report}
 use Rattle.command_line.specs.steps.Given.{Contradicts, GivesExplaining, GivesTask, Sets, value_at}
 use Rattle.command_line.specs.declared.tasks.Explaining.{Explaining}
 use Rattle.command_line.specs.declared.tasks.Task.{Task}
-use Rattle.command_line.specs.declared.tasks.Task.TheVariants.{Check, Explain, Run}
+use Rattle.command_line.specs.declared.tasks.Task.TheVariants.{Check, Explain, Reach, Run}
 use Rattle.clap.specs.Words.{found_of, subcommand_name_of, kind_of, fault_of, is_simple_and_free}
 
 abbrev pub whole : App
@@ -66,8 +66,11 @@ check_form = record {
   file = Some [];
 }
 
+abbrev pub reach_form : Form
+reach_form = record check_form { name = codes "reach"; rules = (sub 2).rules; flags = codes "explain" ∷ codes "no-explain" ∷ [] }
+
 abbrev pub explain_form : Form
-explain_form = record check_form { name = codes "explain"; rules = (sub 2).rules; ids = codes "code" ∷ []; flags = [] }
+explain_form = record check_form { name = codes "explain"; rules = (sub 3).rules; ids = codes "code" ∷ []; flags = [] }
 
 -- the pass over the words of a subcommand
 abbrev pub found_in : Form → List Text → Option Seen
@@ -146,10 +149,21 @@ check_sub =
     let paths : Paths check_form.rules check_form.flags 1 check_form.ids = search rules in
     search (rules, longs, are, defaults, begins, paths, enters check_form)
 
+pub reach_sub : IsSubcommand reach_form
+unfolding clap_on_literals defaults_fault
+reach_sub =
+    let longs : (name : Text) → arg_by_long (sub 2).rules name ≡ option_by reach_form.flags false name = λ name. simp either in
+    let defaults : Defaults reach_form = λ all. (simp either, simp (or-true, either)) in
+    let are : AreFlags reach_form.flags = search rules in
+    let begins : Fits reach_form [] [] reach_form.ids reach_form.flags reach_form.file =
+    search (rules, not_met reach_form.flags, are) in
+    let paths : Paths reach_form.rules reach_form.flags 1 reach_form.ids = search rules in
+    search (rules, longs, are, defaults, begins, paths, enters reach_form)
+
 pub explain_sub : IsSubcommand explain_form
 unfolding clap_on_literals defaults_fault
 explain_sub =
-    let longs : (name : Text) → arg_by_long (sub 2).rules name ≡ option_by [] false name = λ name. simp either in
+    let longs : (name : Text) → arg_by_long (sub 3).rules name ≡ option_by [] false name = λ name. simp either in
     let defaults : Defaults explain_form = λ all. (simp either, simp or-true) in
     let begins : Fits explain_form [] [] explain_form.ids explain_form.flags explain_form.file =
     search (rules, not_met explain_form.flags) in
@@ -187,9 +201,13 @@ module _ (program word : Text) (rest : List Text) (e : fault_of program_app (pro
 
 -- ---- the words of a task
 
+-- the form of a subcommand, by whether its name is `check`, `reach` and `explain`
+abbrev pub by_name : Bool → Bool → Bool → Form
+by_name c r x = cond c check_form (cond r reach_form (cond x explain_form run_form))
+
 -- the form of the subcommand of this name
 abbrev pub form_of : Text → Form
-form_of name = cond (bytes_eq name (codes "check")) check_form (cond (bytes_eq name (codes "explain")) explain_form run_form)
+form_of name = by_name (bytes_eq name (codes "check")) (bytes_eq name (codes "reach")) (bytes_eq name (codes "explain"))
 
 -- words of a subcommand of this name, with these rows
 abbrev pub HasRead : List Text → Text → List Row → Type 0
@@ -234,17 +252,18 @@ unfolding clap_on_literals
 task_read [] e = not_nil _ _ e
 task_read (program ∷ []) e = not_nil _ _ e
 task_read (program ∷ word ∷ rest) e =
-    go (bytes_eq (codes "run") word) refl (bytes_eq (codes "check") word) refl (bytes_eq (codes "explain") word) refl
-    (bytes_eq (codes "help") word) refl
+    go (bytes_eq (codes "run") word) refl (bytes_eq (codes "check") word) refl (bytes_eq (codes "reach") word) refl
+    (bytes_eq (codes "explain") word) refl (bytes_eq (codes "help") word) refl
   where
     go : (r : Bool) → bytes_eq (codes "run") word ≡ r → (c : Bool) → bytes_eq (codes "check") word ≡ c
-        → (x : Bool) → bytes_eq (codes "explain") word ≡ x → (h : Bool) → bytes_eq (codes "help") word ≡ h
-        → IsRead (program ∷ word ∷ rest)
-    go true is c f x g h met = read_as run_form run_sub program word rest refl is e
-    go false is true f x g h met = read_as check_form check_sub program word rest refl f e
-    go false is false f true g h met = read_as explain_form explain_sub program word rest refl g e
-    go false is false f false g true h = grind (arith, is, f, g, h, (no_fault program word rest e).0)
-    go false is false f false g false h = absurd (stranger program word rest e (grind (arith, is, f, g, h)))
+        → (a : Bool) → bytes_eq (codes "reach") word ≡ a → (x : Bool) → bytes_eq (codes "explain") word ≡ x
+        → (h : Bool) → bytes_eq (codes "help") word ≡ h → IsRead (program ∷ word ∷ rest)
+    go true is c f a k x g h met = read_as run_form run_sub program word rest refl is e
+    go false is true f a k x g h met = read_as check_form check_sub program word rest refl f e
+    go false is false f true k x g h met = read_as reach_form reach_sub program word rest refl k e
+    go false is false f false k true g h met = read_as explain_form explain_sub program word rest refl g e
+    go false is false f false k false g true h = grind (arith, is, f, k, g, h, (no_fault program word rest e).0)
+    go false is false f false k false g false h = absurd (stranger program word rest e (grind (arith, is, f, k, g, h)))
 
 -- what else is asked of well-formed words clap doesn't see
 drop_last : (a b c d : Bool) → (a && (b && (c && d))) ≡ true → (a && (b && c)) ≡ true
@@ -253,16 +272,20 @@ drop_last a b c d e = grind (arith, e)
 pub words_pass : (words : List Text) → is_well_formed words ≡ true → fault_of program_app words ≡ []
 words_pass (program ∷ name ∷ rest) e =
     go (bytes_eq name (codes "run") && is_run rest) refl (bytes_eq name (codes "check") && is_check rest) refl
+    (bytes_eq name (codes "reach") && is_reach rest) refl
   where
     go : (r : Bool) → (bytes_eq name (codes "run") && is_run rest) ≡ r
-        → (c : Bool) → (bytes_eq name (codes "check") && is_check rest) ≡ c → fault_of program_app (program ∷ name ∷ rest) ≡ []
-    go true f c g = words_fit run_form run_sub program name rest
+        → (c : Bool) → (bytes_eq name (codes "check") && is_check rest) ≡ c
+        → (a : Bool) → (bytes_eq name (codes "reach") && is_reach rest) ≡ a → fault_of program_app (program ∷ name ∷ rest) ≡ []
+    go true f c g a h = words_fit run_form run_sub program name rest
         (drop_last (bytes_eq name (codes "run")) (names_file rest) (are_operands 4 (without_flags run_flags (without_report rest)))
         (is_some (explaining_in (without_report rest))) f)
-    go false f true g = words_fit check_form check_sub program name rest
+    go false f true g a h = words_fit check_form check_sub program name rest
         (drop_last (bytes_eq name (codes "check")) true (are_operands 2 (without_flags check_flags rest)) (is_some (explaining_in rest)) g)
-    go false f false g = words_fit explain_form explain_sub program name rest
-        (sym (λ j. f j || (g j || (bytes_eq name (codes "explain") && is_explain rest))) ∙ e)
+    go false f false g true h = words_fit reach_form reach_sub program name rest
+        (drop_last (bytes_eq name (codes "reach")) true (are_operands 2 (without_flags reach_flags rest)) (is_some (explaining_in rest)) h)
+    go false f false g false h = words_fit explain_form explain_sub program name rest
+        (sym (λ j. f j || (g j || (h j || (bytes_eq name (codes "explain") && is_explain rest)))) ∙ e)
 words_pass (program ∷ []) e = absurd (true≢false (sym e))
 words_pass [] e = absurd (true≢false (sym e))
 
@@ -333,19 +356,19 @@ module _ (words : List Text) (name : Text) (f : Found) (got : HasRead words name
   -- the task is the one that the words request
   pub task_requested : (task : Task) → GivesTask name f task → RequestsTask words task
   task_requested (Run task) gives =
-      let t = taken run_form (λ j. cond (gives.0 j) check_form (cond (gives.1 j) explain_form run_form)) in
-      let explaining = explaining_is run_form run_sub t (Some task.explaining) refl refl gives.3 in
+      let t = taken run_form (λ j. by_name (gives.0 j) (gives.1 j) (gives.2 j)) in
+      let explaining = explaining_is run_form run_sub t (Some task.explaining) refl refl gives.4 in
       rw t.0 (
         refl,
         λ texts. grind (arith, t.1.1 texts, ap is_some explaining),
-        gives.4 ∙ first_value-rows f (codes "report") ∙ ap (option_and_then (λ (r : Row). slice_get r.values 0)) (t.1.2.filed refl)
+        gives.5 ∙ first_value-rows f (codes "report") ∙ ap (option_and_then (λ (r : Row). slice_get r.values 0)) (t.1.2.filed refl)
             ∙ file_of (report_of got.1),
-        flag_is run_form run_sub t (codes "trace") task.trace refl gives.2,
+        flag_is run_form run_sub t (codes "trace") task.trace refl gives.3,
         explaining,
-        paths_are run_form run_sub t ∙ sym (λ j. gives.5 j ∷ gives.6 j ∷ gives.7 j ∷ gives.8 j ∷ []),
+        paths_are run_form run_sub t ∙ sym (λ j. gives.6 j ∷ gives.7 j ∷ gives.8 j ∷ gives.9 j ∷ []),
       )
   task_requested (Check task) gives =
-      let t = taken check_form (λ j. cond (gives.0 j) check_form (cond (bytes_eq name (codes "explain")) explain_form run_form)) in
+      let t = taken check_form (λ j. by_name (gives.0 j) (bytes_eq name (codes "reach")) (bytes_eq name (codes "explain"))) in
       let explaining = explaining_is check_form check_sub t (Some task.explaining) refl refl gives.3 in
       rw t.0 (
         refl,
@@ -355,21 +378,34 @@ module _ (words : List Text) (name : Text) (f : Found) (got : HasRead words name
         explaining,
         paths_are check_form check_sub t ∙ sym (λ j. gives.4 j ∷ gives.5 j ∷ []),
       )
+  task_requested (Reach task) gives =
+      let t = taken reach_form (λ j. by_name (gives.0 j) (gives.1 j) (bytes_eq name (codes "explain"))) in
+      let explaining = explaining_is reach_form reach_sub t (Some task.explaining) refl refl gives.2 in
+      rw t.0 (
+        refl,
+        λ texts. grind (arith, t.1.1 texts, ap is_some explaining),
+        explaining,
+        paths_are reach_form reach_sub t ∙ sym (λ j. gives.3 j ∷ gives.4 j ∷ []),
+      )
   task_requested (Explain code) gives =
-      let t = taken explain_form (λ j. cond (gives.0 j) check_form (cond (gives.1 j) explain_form run_form)) in
+      let t = taken explain_form (λ j. by_name (gives.0 j) (gives.1 j) (gives.2 j)) in
       rw t.0
-      (refl, t.1.1, paths_are explain_form explain_sub t ∙ sym (λ j. gives.2 j ∷ []))
+      (refl, t.1.1, paths_are explain_form explain_sub t ∙ sym (λ j. gives.3 j ∷ []))
 
   -- words that have both flags are none of a task
   pub contradicted : Contradicts name f → is_well_formed words ≡ false
-  contradicted both = go (bytes_eq name (codes "check")) refl
+  contradicted both = go (bytes_eq name (codes "check")) refl (bytes_eq name (codes "reach")) refl
     where
-      go : (b : Bool) → bytes_eq name (codes "check") ≡ b → is_well_formed words ≡ false
-      go true e =
-          let t = taken check_form (λ j. cond (e j) check_form (cond (both.0 j) explain_form run_form)) in
+      go : (b : Bool) → bytes_eq name (codes "check") ≡ b → (a : Bool) → bytes_eq name (codes "reach") ≡ a
+          → is_well_formed words ≡ false
+      go true e a k =
+          let t = taken check_form (λ j. by_name (e j) (k j) (both.0 j)) in
           rw t.0 (grind (arith, ap is_some (explaining_is check_form check_sub t None refl refl both.1)))
-      go false e =
-          let t = taken run_form (λ j. cond (e j) check_form (cond (both.0 j) explain_form run_form)) in
+      go false e true k =
+          let t = taken reach_form (λ j. by_name (e j) (k j) (both.0 j)) in
+          rw t.0 (grind (arith, ap is_some (explaining_is reach_form reach_sub t None refl refl both.1)))
+      go false e false k =
+          let t = taken run_form (λ j. by_name (e j) (k j) (both.0 j)) in
           rw t.0 (grind (arith, ap is_some (explaining_is run_form run_sub t None refl refl both.1)))
 
 -- ---- errors

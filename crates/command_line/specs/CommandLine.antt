@@ -8,17 +8,17 @@ use Rattle.std.specs.Str.{IsUtf8, bytes_eq}
 use Rattle.clap.specs.Lexer.{long_of}
 use Rattle.clap.specs.Words.{Text}
 use Rattle.command_line.specs.declared.tasks.Task.{Task}
-use Rattle.command_line.specs.declared.tasks.Task.TheVariants.{Run, Check, Explain}
+use Rattle.command_line.specs.declared.tasks.Task.TheVariants.{Run, Check, Reach, Explain}
 use Rattle.command_line.specs.declared.tasks.ReplayPaths.{ReplayPaths}
 use Rattle.command_line.specs.declared.tasks.Explaining.{Explaining}
 use Rattle.command_line.specs.declared.tasks.Explaining.TheVariants.{Always, Never, OnTerminal}
 
--- the operands among the words after `run`, `check` or `explain`: all words but the first `--`
+-- the operands among the words after `run`, `check`, `reach` or `explain`: all words but the first `--`
 abbrev pub operands : List Text → List Text
 operands [] = []
 operands (word ∷ rest) = if bytes_eq word (codes "--") then rest else word ∷ operands rest
 
--- the words after `run` or `check` have this flag before any `--`
+-- the words after `run`, `check` or `reach` have this flag before any `--`
 abbrev pub has_flag : Text → List Text → Bool
 has_flag flag [] = false
 has_flag flag (word ∷ rest) =
@@ -99,12 +99,15 @@ names_file [] = true
 names_file (word ∷ rest) =
     if bytes_eq word (codes "--") then true else names_file_by (as_report word) rest (names_file rest)
 
--- the flags of a run, and of a check
+-- the flags of a run, of a check, and of an analysis of what can be met
 abbrev pub run_flags : List Text
 run_flags = codes "--trace" ∷ codes "--explain" ∷ codes "--no-explain" ∷ []
 
 abbrev pub check_flags : List Text
 check_flags = codes "--all" ∷ codes "--explain" ∷ codes "--no-explain" ∷ codes "--nft" ∷ []
+
+abbrev pub reach_flags : List Text
+reach_flags = codes "--explain" ∷ codes "--no-explain" ∷ []
 
 -- whether faults are explained, by whether `--explain` and `--no-explain` are there, which exclude each
 -- other
@@ -129,6 +132,10 @@ is_run rest = names_file rest && (are_operands 4 (without_flags run_flags (witho
 abbrev pub is_check : List Text → Bool
 is_check rest = are_operands 2 (without_flags check_flags rest) && is_some (explaining_in rest)
 
+-- two paths, with `--explain` or `--no-explain`, each at most once, anywhere before the first `--`
+abbrev pub is_reach : List Text → Bool
+is_reach rest = are_operands 2 (without_flags reach_flags rest) && is_some (explaining_in rest)
+
 -- a code
 abbrev pub is_explain : List Text → Bool
 is_explain rest = are_operands 1 rest
@@ -139,8 +146,9 @@ AreTexts [] = Unit {0}
 AreTexts (word ∷ rest) = IsUtf8 word × AreTexts rest
 
 -- the words request this task: they are the program's name and either `run`, the report's file, the flags
--- of a run and four paths, or `check`, the flags of a check and two paths, or `explain` and a code; no
--- other word is among them, so none that begins with a hyphen is taken for a path before a `--`
+-- of a run and four paths, or `check`, the flags of a check and two paths, or `reach`, its flags and two
+-- paths, or `explain` and a code; no other word is among them, so none that begins with a hyphen is taken
+-- for a path before a `--`
 abbrev pub RequestsTask : List Text → Task → Type 0
 RequestsTask (program ∷ name ∷ rest) (Run task) =
     (name ≡ codes "run") × (AreTexts rest → is_run rest ≡ true) × (name_of_file task.report ≡ report_of rest)
@@ -152,6 +160,9 @@ RequestsTask (program ∷ name ∷ rest) (Check task) =
     × (task.all ≡ has_flag (codes "--all") rest) × (task.nft ≡ has_flag (codes "--nft") rest)
     × (Some task.explaining ≡ explaining_in rest)
     × (operands (without_flags check_flags rest) ≡ task.texts.rules.now ∷ task.texts.plant.now ∷ [])
+RequestsTask (program ∷ name ∷ rest) (Reach task) =
+    (name ≡ codes "reach") × (AreTexts rest → is_reach rest ≡ true) × (Some task.explaining ≡ explaining_in rest)
+    × (operands (without_flags reach_flags rest) ≡ task.texts.rules.now ∷ task.texts.plant.now ∷ [])
 RequestsTask (program ∷ name ∷ rest) (Explain code) =
     (name ≡ codes "explain") × (AreTexts rest → is_explain rest ≡ true) × (operands rest ≡ code.now ∷ [])
 RequestsTask _ _ = ⊥
@@ -160,7 +171,8 @@ RequestsTask _ _ = ⊥
 abbrev pub is_well_formed : List Text → Bool
 is_well_formed (program ∷ name ∷ rest) =
     bytes_eq name (codes "run") && is_run rest
-    || (bytes_eq name (codes "check") && is_check rest || bytes_eq name (codes "explain") && is_explain rest)
+    || (bytes_eq name (codes "check") && is_check rest
+    || (bytes_eq name (codes "reach") && is_reach rest || bytes_eq name (codes "explain") && is_explain rest))
 is_well_formed _ = false
 
 -- whether faults of a task are explained; a code is what `explain` prints, and its faults are explained
@@ -168,6 +180,7 @@ is_well_formed _ = false
 abbrev pub explaining_of : Task → Explaining
 explaining_of (Run task) = task.explaining
 explaining_of (Check task) = task.explaining
+explaining_of (Reach task) = task.explaining
 explaining_of (Explain code) = OnTerminal
 
 -- faults are explained: with `--explain`, on a terminal without `--no-explain`

@@ -1,5 +1,6 @@
 //! Parses the command line (`nftrun run [--explain | --no-explain] [--trace] [--report FILE] RULES BOX
-//! IN OUT`, `nftrun check [--explain | --no-explain] [--all] [--nft] RULES BOX`, `nftrun explain CODE`).
+//! IN OUT`, `nftrun check [--explain | --no-explain] [--all] [--nft] RULES BOX`, `nftrun reach [--explain |
+//! --no-explain] RULES BOX`, `nftrun explain CODE`).
 #![tactic(auto)]
 
 mod parsing;
@@ -7,4 +8,4 @@ mod program;
 mod tasks;
 
 pub use parsing::task;
-pub use tasks::{CheckPaths, CheckTask, Explaining, ReplayPaths, ReplayTask, Task};
+pub use tasks::{CheckPaths, CheckTask, Explaining, ReachTask, ReplayPaths, ReplayTask, Task};

@@ -1,25 +1,25 @@
 //! Parses a command line.
-ghost use Rattle.std.specs.Prelude.{◌≡◌, IfErr, IfOk, MatchOption, map, true};
+ghost use Rattle.std.specs.Prelude.{◌≡◌, IfErr, IfOk, MatchOption, codes, map, true};
 ghost use Rattle.clap.specs.Words.{found_of, kind_of};
 ghost use Rattle.command_line.specs.CommandLine.{RequestsTask, is_well_formed};
 ghost use Rattle.command_line.specs.steps.Given.{Contradicts, GivesExplaining, GivesTask, value_at};
 
 use crate::program::{excluding_program, program};
-use crate::tasks::{CheckPaths, CheckTask, Explaining, ReplayPaths, ReplayTask, Task};
+use crate::tasks::{CheckPaths, CheckTask, Explaining, ReachTask, ReplayPaths, ReplayTask, Task};
 use clap::error::ErrorKind;
 use clap::{ArgMatches, Error};
 use std::alloc::{AllocError, Global};
 
 /// Parses the words of the command line, of which the first is the program's name.
 ///
-/// The others are `run` and four paths, in the order RULES, BOX, IN, OUT; or `check` and two, in
-/// the order RULES, BOX; or `explain` and a code. A path or code that begins with a hyphen goes
-/// after a word `--`, which is no path itself; `-` alone is a path.
+/// The others are `run` and four paths, in the order RULES, BOX, IN, OUT; or `check` or `reach` and
+/// two, in the order RULES, BOX; or `explain` and a code. A path or code that begins with a hyphen
+/// goes after a word `--`, which is no path itself; `-` alone is a path.
 ///
 /// A run may have `--trace` once, and `--report FILE` or `--report=FILE` once; a check may have
-/// `--all` and `--nft`, once each; both may have `--explain` or `--no-explain`, which exclude each
-/// other. Options may be anywhere between the subcommand and the first `--`, behind which each word
-/// is a path. A FILE that begins with a hyphen is given as `--report=FILE`.
+/// `--all` and `--nft`, once each; these and `reach` may have `--explain` or `--no-explain`, which
+/// exclude each other. Options may be anywhere between the subcommand and the first `--`, behind
+/// which each word is a path. A FILE that begins with a hyphen is given as `--report=FILE`.
 ///
 /// # Errors
 /// clap's, whose `exit_code` is 0 where help was requested, and 2 where the words are no task.
@@ -60,10 +60,13 @@ fn task_of<'a>(name: &str, given: &ArgMatches<'a>) -> Option<Task<'a>>
             all: given.get_flag("all"),
             nft: given.get_flag("nft"),
             explaining: explaining_of(given)?,
-            texts: CheckPaths {
-                rules: value_of(given, "rules"),
-                plant: value_of(given, "plant"),
-            },
+            texts: texts_of(given),
+        }));
+    }
+    if name == "reach" {
+        return Some(Task::Reach(ReachTask {
+            explaining: explaining_of(given)?,
+            texts: texts_of(given),
         }));
     }
     if name == "explain" {
@@ -80,6 +83,17 @@ fn task_of<'a>(name: &str, given: &ArgMatches<'a>) -> Option<Task<'a>>
             output: value_of(given, "output"),
         },
     }))
+}
+
+// The paths of a ruleset and a box.
+fn texts_of<'a>(given: &ArgMatches<'a>) -> CheckPaths<'a>
+    ensures rules { result.rules.now ≡ value_at (found_of given.now) (codes "rules") }
+    ensures plant { result.plant.now ≡ value_at (found_of given.now) (codes "plant") }
+{
+    CheckPaths {
+        rules: value_of(given, "rules"),
+        plant: value_of(given, "plant"),
+    }
 }
 
 // Whether faults are explained; none where both flags are given.

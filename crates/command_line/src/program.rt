@@ -25,11 +25,12 @@ const NO_EXPLAIN_HELP: &str = "Tells no more than the line of a fault, not on a 
 
 /// The end of `--help`.
 const NOTES: &str = "\
-With --explain, run and check tell what a fault means, and where it is. Where
-standard error is a terminal they do so without it; --no-explain turns it off.
+With --explain, run, check and reach tell what a fault means, and where it is.
+Where standard error is a terminal they do so without it; --no-explain turns it
+off.
 
 Exit statuses:
-  0  done; for check: accepted
+  0  done; for check: accepted; for reach: each rule can be met
   1  the ruleset is rejected
   2  the command line isn't understood, or a file to write is one to read
   3  the box file is rejected
@@ -37,6 +38,8 @@ Exit statuses:
   5  a file can't be opened, or a read or write failed
   6  out of memory
   7  the capture ends in the middle of a record
+  8  a rule can't be met
+  9  for reach: the answer is too large to compute
 
 Examples:
   nftrun check --explain rules.nft box.txt
@@ -79,6 +82,25 @@ Examples:
   nftrun check rules.nft box.txt
   nftrun check --nft rules.nft box.txt";
 
+/// The end of `reach --help`.
+const REACH_NOTES: &str = "\
+Of each rule it tells whether some packet can meet it, and of each base chain
+whether its policy can apply. A path that begins with a hyphen goes after --.
+
+Exit statuses:
+  0  each rule can be met
+  1  the ruleset is rejected
+  2  the command line isn't understood
+  3  the box file is rejected
+  5  a file can't be opened, or a read or write failed
+  6  out of memory
+  8  a rule can't be met
+  9  the answer is too large to compute
+
+Examples:
+  nftrun reach rules.nft box.txt
+  nftrun reach rules.nft box.txt | grep never";
+
 /// A help that lists exit statuses.
 #[derive(Clone, Copy)]
 pub(crate) enum Help {
@@ -88,6 +110,8 @@ pub(crate) enum Help {
     Run,
     /// `nftrun check --help`
     Check,
+    /// `nftrun reach --help`
+    Reach,
 }
 
 impl Help {
@@ -99,6 +123,7 @@ impl Help {
             Help::Program => NOTES,
             Help::Run => RUN_NOTES,
             Help::Check => CHECK_NOTES,
+            Help::Reach => REACH_NOTES,
         }
     }
 }
@@ -121,7 +146,7 @@ pub(crate) enum Argument {
     Report,
 }
 
-static SUBCOMMANDS: [Subcommand; 3] = [
+static SUBCOMMANDS: [Subcommand; 4] = [
     Subcommand {
         name: "run",
         about: "Replays a capture through a ruleset",
@@ -148,6 +173,17 @@ static SUBCOMMANDS: [Subcommand; 3] = [
             Argument::Flag("explain", EXPLAIN_HELP),
             Argument::Flag("no-explain", NO_EXPLAIN_HELP),
             Argument::Flag("nft", NFT_HELP),
+        ],
+    },
+    Subcommand {
+        name: "reach",
+        about: "Tells which rules some packet can meet",
+        help: Some(Help::Reach),
+        arguments: &[
+            Argument::Path("rules", "RULES", "The file of the ruleset"),
+            Argument::Path("plant", "BOX", "The file of the box"),
+            Argument::Flag("explain", EXPLAIN_HELP),
+            Argument::Flag("no-explain", NO_EXPLAIN_HELP),
         ],
     },
     Subcommand {

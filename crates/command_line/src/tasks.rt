@@ -11,6 +11,8 @@ pub enum Task<'a> {
     /// `check [--explain | --no-explain] [--all] [--nft] RULES BOX`: check a ruleset before it is
     /// loaded.
     Check(CheckTask<'a>),
+    /// `reach [--explain | --no-explain] RULES BOX`: tell which rules some packet can meet.
+    Reach(ReachTask<'a>),
     /// `explain CODE`: print what a code means.
     Explain(&'a str),
 }
@@ -61,7 +63,14 @@ pub struct CheckTask<'a> {
     pub texts: CheckPaths<'a>,
 }
 
-/// The paths of a check.
+/// An analysis of which rules some packet can meet.
+#[derive(Clone, Copy)]
+pub struct ReachTask<'a> {
+    pub explaining: Explaining,
+    pub texts: CheckPaths<'a>,
+}
+
+/// The paths of a check or an analysis.
 #[derive(Clone, Copy)]
 pub struct CheckPaths<'a> {
     /// RULES, the file of the ruleset.
@@ -78,6 +87,7 @@ impl Task<'_> {
         let explaining = match self {
             Task::Run(task) => task.explaining,
             Task::Check(task) => task.explaining,
+            Task::Reach(task) => task.explaining,
             Task::Explain(_) => Explaining::OnTerminal,
         };
         match explaining {

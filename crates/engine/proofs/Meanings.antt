@@ -12,6 +12,7 @@ use Rattle.engine.specs.steps.Faults.{of_capture}
 use Rattle.engine.proofs.Histories.{OneEntry, one_history}
 use Rattle.engine.proofs.Names.{Box, Failures, NoneFailed, Rules}
 use Rattle.engine.proofs.Texts.{counts_later}
+use Rattle.list_laws.specs.Options.{IfSome_weaker}
 use Rattle.engine.specs.declared.fault.RunFault.TheVariants.{Memory}
 use Rattle.engine.specs.declared.runs.Summary.{Summary}
 use Rattle.rule_check.specs.Checked.{CheckedTree}
@@ -139,6 +140,14 @@ pub refuses_open : (rules box : List ℕ) (trace : Bool) (input : Option (List �
     → Accepted rules box → IfSome input (λ bytes. LeftDevices rules box bytes trace old new (of_capture error))
     → Refuses rules box input (of_capture error)
 refuses_open rules box trace input old new error accepted left = grind (arith, refuses_capture)
+
+-- also where nothing more is known than the capture's header
+pub refuses_header : (rules box : List ℕ) (input : Option (List ℕ)) (error : CaptureError) → Accepted rules box
+    → RefusedBy input error → Refuses rules box input (of_capture error)
+refuses_header rules box input (errors.Refused fault) accepted refused =
+    (accepted, IfSome_weaker _ _ _ (λ bytes is. inl is) refused)
+refuses_header rules box input errors.Device accepted refused = tt
+refuses_header rules box input errors.Memory accepted refused = tt
 
 -- of neither text, and of no record
 pub no_text_fault : (error : CaptureError) → IsOfTexts (of_capture error) → ⊥

@@ -1,9 +1,14 @@
 -- A run of which one record is processed at a call (own).
-use Rattle.std.specs.Prelude.{Bool, List, ◌∷◌, IfSome}
-use Rattle.pcap_io.specs.CaptureStates.{CaptureState}
+use Rattle.std.specs.Prelude.{◌≡◌, ◌⊎◌, ℕ, Bool, true, List, ◌∷◌, IfSome, Option, Result, Ok, Err}
+use Rattle.pcap_io.specs.CaptureStates.{CaptureState, NextAnswers}
+use Rattle.pcap_io.specs.Counting.{one_failure}
+use Rattle.pcap_io.specs.declared.failures.Failures.{Failures}
+use Rattle.pcap_io.specs.declared.fault.CaptureError.TheVariants as captures
 use Rattle.history.specs.History.{Entry}
 use Rattle.stepping.specs.Next.{Next}
 use Rattle.stepping.specs.Representing.{EngineState, Represents}
+use Rattle.engine.specs.declared.fault.RunFault.{RunFault}
+use Rattle.engine.specs.declared.fault.RunFault.TheVariants.{Capture, Device, Memory}
 use Rattle.engine.specs.declared.fullest.Fullest.{Fullest}
 use Rattle.engine.specs.Fullest.{IsFullest}
 
@@ -23,3 +28,25 @@ pub record StandsBehind (rerun : RerunState) (history : List Entry) : Type 0 whe
 abbrev pub StandsBehindNext : RerunState → RerunState → Type 0
 StandsBehindNext old new = (history : List Entry) → StandsBehind old history → IfSome new.records.last (λ taken.
     (e : Entry) × Next old.engine.setup history taken e × StandsBehind new (e ∷ history))
+
+-- what a call answers, by the bytes of the capture to come before it and after it: a record where one is to
+-- come, the end where none is, the fault at which the records stop; memory runs out at a record, and a device
+-- fails while one is read or what is written behind it
+abbrev pub AnswersNext : List ℕ → Option (List ℕ) → CaptureState → CaptureState → Result Bool RunFault
+    → Type 0
+AnswersNext bytes after old new (Ok more) = NextAnswers bytes after old new (Ok more)
+AnswersNext bytes after old new (Err (Capture fault)) =
+    NextAnswers bytes after old new (Err (captures.Refused fault))
+AnswersNext bytes after old new (Err Memory) = NextAnswers bytes after old new (Ok true)
+AnswersNext bytes after old new (Err Device) = NextAnswers bytes after old new (Err captures.Device)
+    ⊎ NextAnswers bytes after old new (Ok true)
+AnswersNext bytes after old new (Err _) = ⊥
+
+-- of the failed reads and writes before a call and after it: `Device` is exactly one more, otherwise none
+-- failed
+abbrev pub CountsOne : {T : Type 0} → Result T RunFault → (reads reads_after writes writes_after : Failures)
+    → Type 0
+CountsOne (Err Device) reads reads_after writes writes_after =
+    ((reads_after ≡ one_failure reads) × (writes_after ≡ writes))
+    ⊎ ((reads_after ≡ reads) × (writes_after ≡ one_failure writes))
+CountsOne _ reads reads_after writes writes_after = (reads_after ≡ reads) × (writes_after ≡ writes)

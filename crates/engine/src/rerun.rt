@@ -1,10 +1,9 @@
 //! A run that is stepped through, to look at its connections.
 ghost use Rattle.std.specs.Prelude.{◌≡◌, ◌≢◌, [], true, false, Ok, IfOk, IfErr, IfSome};
-ghost use Rattle.pcap_io.specs.CaptureStates.{NextAnswers, ahead, recorded};
-ghost use Rattle.engine.specs.Judged.{JudgeRefuses};
+ghost use Rattle.pcap_io.specs.CaptureStates.{ahead, recorded};
 ghost use Rattle.engine.specs.Meaning.{Accepted};
-ghost use Rattle.engine.specs.Refusals.{IsOfTexts};
-ghost use Rattle.engine.specs.Rerunning.{StandsBehind, StandsBehindNext};
+ghost use Rattle.engine.specs.Refusals.{IsOfRecord, Refuses};
+ghost use Rattle.engine.specs.Rerunning.{AnswersNext, CountsOne, StandsBehind, StandsBehindNext};
 
 use crate::fault::RunFault;
 use crate::fullest::Fullest;
@@ -70,8 +69,11 @@ impl Rerun {
         ensures begun { IfOk result (λ rerun. (accepted : Accepted rules.now plant.now)
             × (rerun.engine.setup ≡ accepted.setup) × StandsBehind rerun []
             × (rerun.is_over ≡ false)) }
-        ensures refused { IfErr result (λ fault. IsOfTexts fault
-            → JudgeRefuses rules.now plant.now fault) }
+        ensures refusals { IfErr result (λ fault.
+            Refuses rules.now plant.now (R.remaining capture.old.inner) fault) }
+        ensures within { IfErr result (λ fault. IsOfRecord fault → ⊥) }
+        ensures failures { CountsOne result capture.old.failures capture.new.failures
+            lost.old.failures lost.new.failures }
     {
         let checked = checked(alloc, rules, plant)?;
         let records = Capture::open(alloc, capture)?;
@@ -95,10 +97,12 @@ impl Rerun {
         lost: &mut Counted<W>,
     ) -> Result<bool, RunFault>
         ensures stands { result ≡ Ok true → StandsBehindNext self.old self.new }
-        ensures read { result ≡ Ok true → IfSome
+        ensures answers { self.old.is_over ≡ false → IfSome
             (ahead self.old.records (R.remaining capture.old.inner)) (λ bytes.
-            NextAnswers bytes (ahead self.new.records (R.remaining capture.new.inner))
-            self.old.records self.new.records (Ok true)) }
+            AnswersNext bytes (ahead self.new.records (R.remaining capture.new.inner))
+            self.old.records self.new.records result) }
+        ensures failures { CountsOne result capture.old.failures capture.new.failures
+            lost.old.failures lost.new.failures }
         ensures setup { self.new.engine.setup ≡ self.old.engine.setup }
         ensures over { result ≢ Ok true → self.new.is_over ≡ true }
         ensures done { self.old.is_over ≡ true → (result ≡ Ok false) × (self.new ≡ self.old) }

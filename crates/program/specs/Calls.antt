@@ -8,6 +8,7 @@ use Rattle.command_line.specs.declared.tasks.ReplayPaths.{ReplayPaths}
 use Rattle.command_line.specs.declared.tasks.Task.{Task}
 use Rattle.engine.specs.declared.fault.RunFault.{RunFault}
 use Rattle.engine.specs.declared.judging.Counts.{Counts}
+use Rattle.program.specs.declared.fault.ReachFault.{ReachFault}
 use Rattle.program.specs.declared.identity.FileIdentity.{FileIdentity}
 use Rattle.program.specs.declared.running.RunFiles.{RunFiles}
 use Rattle.program.specs.declared.running.RunInputs.{RunInputs}
@@ -40,6 +41,9 @@ pub data Call (Input Output : Type 0) : Type 0 where
   judge : Text → Text → Result Counts RunFault → Call Input Output
   -- prints the line of an accepted ruleset
   print_accepted : Counts → Result ⊤ Error → Call Input Output
+  -- checks a ruleset's text for a box file's text, and prints which rules can be met and which policies can
+  -- apply; whether each rule can be met
+  reach : Text → Text → Result Bool ReachFault → Call Input Output
   -- prints the line of a status
   print_status : Status → Call Input Output
   -- prints what the status of a task means, and where its fault is

@@ -2,8 +2,9 @@
 use Rattle.std.specs.Prelude.{◌≡◌, List, [], ◌∷◌, Ok, Err}
 use Rattle.command_line.specs.declared.tasks.CheckPaths.{CheckPaths}
 use Rattle.engine.specs.declared.judging.Counts.{Counts}
-use Rattle.program.specs.Calls.{Call, Text, read, judge, print_accepted}
+use Rattle.program.specs.Calls.{Call, Text, judge, print_accepted}
 use Rattle.program.specs.Status.{of_fault, of_error}
+use Rattle.program.specs.Texts.{ReadsTexts}
 use Rattle.program.specs.declared.status.Status.{Status}
 use Rattle.program.specs.declared.status.Status.TheVariants.{Success}
 
@@ -20,14 +21,6 @@ Judges rules box (judge r b (Ok counts) ∷ calls) status =
     (r ≡ rules) × (b ≡ box) × Announces counts calls status
 Judges _ _ _ _ = ⊥
 
--- BOX is read
-abbrev pub ExaminesOn : {I O : Type 0} → CheckPaths → Text → List (Call I O) → Status → Type 0
-ExaminesOn t rules (read path (Err error) ∷ []) status = (path ≡ t.plant.now) × (status ≡ of_error error)
-ExaminesOn t rules (read path (Ok box) ∷ calls) status = (path ≡ t.plant.now) × Judges rules box calls status
-ExaminesOn _ _ _ _ = ⊥
-
--- RULES is read
+-- RULES and BOX are read and checked
 abbrev pub Examines : {I O : Type 0} → CheckPaths → List (Call I O) → Status → Type 0
-Examines t (read path (Err error) ∷ []) status = (path ≡ t.rules.now) × (status ≡ of_error error)
-Examines t (read path (Ok rules) ∷ calls) status = (path ≡ t.rules.now) × ExaminesOn t rules calls status
-Examines _ _ _ = ⊥
+Examines t calls status = ReadsTexts t Judges calls status

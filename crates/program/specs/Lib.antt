@@ -2,8 +2,10 @@ pub mod Status
 pub mod Lines
 pub mod Identity
 pub mod Calls
+pub mod Texts
 pub mod Replaying
 pub mod Examining
+pub mod Reaching
 pub mod Performing
 pub mod Outputs
 pub mod steps

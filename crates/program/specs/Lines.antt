@@ -5,7 +5,7 @@ use Rattle.pcap_io.specs.Codes as captures
 use Rattle.engine.specs.Words.{rules_code}
 use Rattle.program.specs.declared.status.Status.{Status}
 use Rattle.program.specs.declared.status.Status.TheVariants.{Success, Rules, Usage, NotUtf8, SameFile, SameReport, UnknownCode, Box, Capture}
-use Rattle.program.specs.declared.status.Status.TheVariants.{Device, Memory, Torn}
+use Rattle.program.specs.declared.status.Status.TheVariants.{Device, Memory, Torn, Unmet, TooLarge}
 
 -- the line of a status, without its newline
 abbrev pub line_of : Status → List ℕ
@@ -21,6 +21,8 @@ line_of (Capture fault) = codes "nftrun: capture " ++ captures.code_of fault
 line_of Device = codes "nftrun: device"
 line_of Memory = codes "nftrun: memory"
 line_of Torn = codes "nftrun: capture torn"
+line_of Unmet = codes "nftrun: a rule can't be met"
+line_of TooLarge = codes "nftrun: too large"
 
 -- a number of bytes in megabytes (10^6 bytes), with one decimal
 abbrev pub megabytes : ℕ → List ℕ

@@ -1,5 +1,5 @@
 -- Statuses and exit statuses (own): 0 done, 1 ruleset, 2 usage, 3 box file, 4 capture, 5 device, 6
--- memory, 7 torn.
+-- memory, 7 torn, 8 a rule can't be met, 9 too large.
 use Rattle.std.specs.Prelude.{ℕ, Bool, true, false, Result, Ok, Err}
 use Rattle.std.specs.IoError.{error_kind}
 use Rattle.std.specs.declared.io.Error.{Error}
@@ -7,9 +7,11 @@ use Rattle.std.specs.declared.io.ErrorKind.{ErrorKind}
 use Rattle.std.specs.declared.io.ErrorKind.TheVariants.{OutOfMemory, InvalidData}
 use Rattle.engine.specs.declared.fault.RunFault.{RunFault}
 use Rattle.engine.specs.declared.fault.RunFault.TheVariants as faults
+use Rattle.program.specs.declared.fault.ReachFault.{ReachFault}
+use Rattle.program.specs.declared.fault.ReachFault.TheVariants as reach_faults
 use Rattle.program.specs.declared.status.Status.{Status}
 use Rattle.program.specs.declared.status.Status.TheVariants.{Success, Rules, Usage, NotUtf8, SameFile, SameReport, UnknownCode, Box, Capture}
-use Rattle.program.specs.declared.status.Status.TheVariants.{Device, Memory, Torn}
+use Rattle.program.specs.declared.status.Status.TheVariants.{Device, Memory, Torn, Unmet, TooLarge}
 
 abbrev pub of_fault : RunFault → Status
 of_fault (faults.Rules fault) = Rules fault
@@ -28,6 +30,19 @@ abbrev pub of_run : Result Bool RunFault → Status
 of_run (Ok torn) = of_end torn
 of_run (Err fault) = of_fault fault
 
+-- the status of an answer to which rules can be met: whether each can be
+abbrev pub of_met : Bool → Status
+of_met true = Success
+of_met false = Unmet
+
+abbrev pub of_reach_fault : ReachFault → Status
+of_reach_fault (reach_faults.Fault fault) = of_fault fault
+of_reach_fault reach_faults.TooLarge = TooLarge
+
+abbrev pub of_reach : Result Bool ReachFault → Status
+of_reach (Ok all_met) = of_met all_met
+of_reach (Err fault) = of_reach_fault fault
+
 -- the status of a failed system call
 abbrev pub of_kind : ErrorKind → Status
 of_kind OutOfMemory = Memory
@@ -35,6 +50,14 @@ of_kind _ = Device
 
 abbrev pub of_error : Error → Status
 of_error e = of_kind (error_kind e)
+
+-- the fault of a failed system call
+abbrev pub fault_of_kind : ErrorKind → RunFault
+fault_of_kind OutOfMemory = faults.Memory
+fault_of_kind _ = faults.Device
+
+abbrev pub fault_of_error : Error → RunFault
+fault_of_error e = fault_of_kind (error_kind e)
 
 -- the status where the command line can't be read: a word isn't UTF-8, or the system call failed
 abbrev pub of_words_kind : ErrorKind → Status
@@ -63,3 +86,5 @@ code_of (Capture fault) = 4
 code_of Device = 5
 code_of Memory = 6
 code_of Torn = 7
+code_of Unmet = 8
+code_of TooLarge = 9

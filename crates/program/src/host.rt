@@ -1,4 +1,5 @@
 //! The operating system's interface, abstracted for proofs.
+use crate::fault::ReachFault;
 use crate::identity::FileIdentity;
 use crate::running::{RunFiles, RunInputs};
 use crate::status::Status;
@@ -19,7 +20,7 @@ use std::io;
 pub trait Host {
     ghost use Rattle.clap.specs.Values.{kind_of};
     ghost use Rattle.program.specs.Calls.{Call, words, errors_to_terminal, read, open_input, identify, draw_keys};
-    ghost use Rattle.program.specs.Calls.{create, run, judge, print_accepted, print_status, explain_status};
+    ghost use Rattle.program.specs.Calls.{create, run, judge, print_accepted, reach, print_status, explain_status};
     ghost use Rattle.program.specs.Calls.{remark_on_capture, list_faults, warn_of_nft, show, explain, word_texts};
     ghost use Rattle.program.specs.Calls.{bytes_of};
 
@@ -83,6 +84,12 @@ pub trait Host {
     /// Prints the line of an accepted ruleset to standard output.
     fn print_accepted(&mut self, counts: Counts) -> io::Result<()>
         ensures { happens self.old (print_accepted counts result) self.new };
+
+    /// Checks a ruleset for a box, and prints to standard output of each rule whether some packet can
+    /// meet it, and of each base chain whether its policy can apply. Returns whether each rule can be
+    /// met.
+    fn reach(&mut self, rules: Vec<u8>, plant: &[u8]) -> Result<bool, ReachFault>
+        ensures { happens self.old (reach rules.items plant.now result) self.new };
 
     /// Prints the status's line to standard error. A failed write is ignored: the exit status
     /// remains.

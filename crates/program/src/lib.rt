@@ -2,19 +2,23 @@
 #![tactic(auto)]
 
 mod examining;
+mod fault;
 mod host;
 mod identity;
 mod performing;
 mod progress_reader;
+mod reaching;
 mod replaying;
 mod running;
 mod status;
 
 pub use examining::examine;
+pub use fault::ReachFault;
 pub use host::Host;
 pub use identity::FileIdentity;
 pub use performing::perform;
 pub use progress_reader::{Progress, ProgressLine, ProgressReader};
+pub use reaching::reach;
 pub use replaying::replay;
 pub use running::{RunFiles, RunInputs, run_with_progress};
 pub use status::Status;

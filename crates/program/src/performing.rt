@@ -10,6 +10,7 @@ ghost use Rattle.program.specs.Performing.{nft_calls, remark_calls, status_line_
 
 use crate::examining::examine;
 use crate::host::Host;
+use crate::reaching::reach;
 use crate::replaying::replay;
 use crate::status::Status;
 use clap::Error;
@@ -82,6 +83,7 @@ fn run_task<H: Host>(host: &mut H, task: &Task<'_>) -> Status
     match task {
         Task::Run(task) => replay(host, task),
         Task::Check(task) => examine(host, &task.texts),
+        Task::Reach(task) => reach(host, &task.texts),
         Task::Explain(code) => show(host, code),
     }
 }
@@ -133,7 +135,7 @@ fn remark_on_capture<H: Host>(host: &mut H, status: Status, task: &Task<'_>)
                 host.remark_on_capture(&run.paths);
             }
         }
-        Task::Check(_) | Task::Explain(_) => {}
+        Task::Check(_) | Task::Reach(_) | Task::Explain(_) => {}
     }
 }
 
@@ -154,7 +156,7 @@ fn warn_of_nft<H: Host>(host: &mut H, status: Status, task: &Task<'_>)
                 host.warn_of_nft(&check.texts);
             }
         }
-        Task::Run(_) | Task::Explain(_) => {}
+        Task::Run(_) | Task::Reach(_) | Task::Explain(_) => {}
     }
 }
 

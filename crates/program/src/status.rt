@@ -2,6 +2,7 @@
 ghost use Rattle.std.specs.Prelude.{◌≡◌, MatchResult};
 ghost use Rattle.program.specs.Status.{of_end, of_error, of_fault, of_words_error, has_line, code_of};
 
+use crate::fault::ReachFault;
 use box_file::BoxFault;
 use engine::{RulesFault, RunFault};
 use pcap_io::CaptureFault;
@@ -28,6 +29,10 @@ pub enum Status {
     Memory,
     /// The run is complete, but the capture ends in the middle of a record.
     Torn,
+    /// A rule can't be met; which one is printed.
+    Unmet,
+    /// Which rules can be met is too large to compute.
+    TooLarge,
 }
 
 impl Status {
@@ -92,6 +97,8 @@ impl Status {
             Status::Device => 5,
             Status::Memory => 6,
             Status::Torn => 7,
+            Status::Unmet => 8,
+            Status::TooLarge => 9,
         }
     }
 }
@@ -115,6 +122,20 @@ impl From<RunFault> for Status {
 
     fn from(fault: RunFault) -> Status {
         Status::of(Err(&fault))
+    }
+}
+
+impl From<ReachFault> for Status {
+    ghost use Rattle.std.specs.Prelude.{◌≡◌};
+    ghost use Rattle.program.specs.Status.{of_reach_fault};
+
+    ghost from_gives = { λ fault status. status ≡ of_reach_fault fault };
+
+    fn from(fault: ReachFault) -> Status {
+        match fault {
+            ReachFault::Fault(fault) => Status::of(Err(&fault)),
+            ReachFault::TooLarge => Status::TooLarge,
+        }
     }
 }
 
@@ -154,6 +175,8 @@ impl fmt::Display for Status {
             Status::Device => f.write_str("nftrun: device"),
             Status::Memory => f.write_str("nftrun: memory"),
             Status::Torn => f.write_str("nftrun: capture torn"),
+            Status::Unmet => f.write_str("nftrun: a rule can't be met"),
+            Status::TooLarge => f.write_str("nftrun: too large"),
         }
     }
 }

@@ -1,5 +1,9 @@
+pub mod Advancing
 pub mod Deciding
 pub mod Ending
+pub mod EqualEnds
 pub mod Following
 pub mod LastStatement
+pub mod Merging
 pub mod Sorting
+pub mod Within

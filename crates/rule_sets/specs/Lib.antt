@@ -1,3 +1,4 @@
 pub mod Ends
 pub mod Interfaces
 pub mod Parts
+pub mod steps

@@ -1,11 +1,14 @@
 //! Rules as sets of packets: what each statement does with all of them at once.
 #![tactic(auto)]
 
+mod adding;
+mod cutting;
 mod ends;
 mod interfaces;
 mod laws;
 mod meeting;
 mod parts;
+mod progress;
 mod statements;
 
 pub use ends::{End, rule_ends};

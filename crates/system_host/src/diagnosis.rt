@@ -36,6 +36,10 @@ fn source_paths<'a>(task: &Task<'a>) -> Option<SourcePaths<'a>> {
             rules: check.texts.rules,
             plant: check.texts.plant,
         }),
+        Task::Reach(reach) => Some(SourcePaths {
+            rules: reach.texts.rules,
+            plant: reach.texts.plant,
+        }),
         Task::Explain(_) => None,
     }
 }

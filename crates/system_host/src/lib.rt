@@ -1,9 +1,11 @@
 //! The program on the operating system: its files, its clock, standard output and standard error.
 #![tactic(auto)]
 
+mod analysis;
 mod closed_pipe;
 mod destination;
 mod diagnosis;
+mod reach_lines;
 mod system;
 
 pub use system::start;

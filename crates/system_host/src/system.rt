@@ -2,6 +2,7 @@
 ghost use Rattle.program.specs.Outputs.{capture_bytes};
 ghost use Rattle.system_host.specs.steps.Promised.{IsGuaranteed, held_by};
 
+use crate::analysis::analyze;
 use crate::closed_pipe::{PipeWriter, is_closed_pipe};
 use crate::destination::Destination;
 use crate::diagnosis::{explain_status, list_faults, remark_on_capture, warn_of_nft};
@@ -11,13 +12,13 @@ use engine::{Counts, RunFault};
 use explanations::Explanation;
 use pcap_io::Counted;
 use program::{
-    FileIdentity, Host, Progress, ProgressLine, ProgressReader, RunFiles, RunInputs, Status,
-    perform, run_with_progress,
+    FileIdentity, Host, Progress, ProgressLine, ProgressReader, ReachFault, RunFiles, RunInputs,
+    Status, perform, run_with_progress,
 };
 use std::env::{self, Env};
 use std::fs::OpenFile;
 use std::hash::RandomState;
-use std::io::IsTerminal;
+use std::io::{IsTerminal, Write};
 use std::os::unix::fs::MetadataExt;
 use std::random::RandomSource;
 use std::rt::{Clock, Files};
@@ -140,7 +141,7 @@ impl<'a, R: Clock + Env + Files + Print + Eprint + RandomSource + AllocGlobal> H
     type Output = Counted<Destination<R::File>>;
 
     // What files hold can't be stated. What the engine guarantees of a run for its texts and its
-    // capture can, and so can what it guarantees of a check.
+    // capture can, and so can what it guarantees of a check, and of the texts of an analysis.
     ghost happens = { λ _ call _.
         IsGuaranteed (capture_bytes R.File.remaining) (held_by R.File.contents) call };
 
@@ -233,6 +234,14 @@ impl<'a, R: Clock + Env + Files + Print + Eprint + RandomSource + AllocGlobal> H
             counts.tables, counts.chains, counts.rules
         );
         self.keep("standard output", answer)
+    }
+
+    fn reach(&mut self, rules: Vec<u8>, plant: &[u8]) -> Result<bool, ReachFault> {
+        let rt = self.rt;
+        let found = analyze(rt.alloc(), &rules, plant)?;
+        let answer = io::writer(rt).write_all(&found.lines);
+        self.keep("standard output", answer)?;
+        Ok(found.is_met)
     }
 
     fn print_status(&mut self, status: Status) {

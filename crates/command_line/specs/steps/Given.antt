@@ -6,7 +6,7 @@ use Rattle.clap.specs.declared.parser.matches.Found.{Found}
 use Rattle.command_line.specs.CommandLine.{explaining_by, name_of_file}
 use Rattle.command_line.specs.declared.tasks.Explaining.{Explaining}
 use Rattle.command_line.specs.declared.tasks.Task.{Task}
-use Rattle.command_line.specs.declared.tasks.Task.TheVariants.{Run, Check, Explain}
+use Rattle.command_line.specs.declared.tasks.Task.TheVariants.{Run, Check, Reach, Explain}
 
 -- the argument's value, empty where it has none
 abbrev pub value_at : Found → Text → Text
@@ -24,7 +24,7 @@ GivesExplaining f o = (always : Bool) × (never : Bool) × Sets f (codes "explai
 -- the subcommand of this name, with its matches, is this task
 abbrev pub GivesTask : Text → Found → Task → Type 0
 GivesTask name f (Run task) =
-    (bytes_eq name (codes "check") ≡ false) × (bytes_eq name (codes "explain") ≡ false)
+    (bytes_eq name (codes "check") ≡ false) × (bytes_eq name (codes "reach") ≡ false) × (bytes_eq name (codes "explain") ≡ false)
     × Sets f (codes "trace") task.trace × GivesExplaining f (Some task.explaining)
     × (name_of_file task.report ≡ first_value f (codes "report"))
     × (task.paths.rules.now ≡ value_at f (codes "rules")) × (task.paths.plant.now ≡ value_at f (codes "plant"))
@@ -33,8 +33,12 @@ GivesTask name f (Check task) =
     (bytes_eq name (codes "check") ≡ true) × Sets f (codes "all") task.all × Sets f (codes "nft") task.nft
     × GivesExplaining f (Some task.explaining)
     × (task.texts.rules.now ≡ value_at f (codes "rules")) × (task.texts.plant.now ≡ value_at f (codes "plant"))
+GivesTask name f (Reach task) =
+    (bytes_eq name (codes "check") ≡ false) × (bytes_eq name (codes "reach") ≡ true) × GivesExplaining f (Some task.explaining)
+    × (task.texts.rules.now ≡ value_at f (codes "rules")) × (task.texts.plant.now ≡ value_at f (codes "plant"))
 GivesTask name f (Explain code) =
-    (bytes_eq name (codes "check") ≡ false) × (bytes_eq name (codes "explain") ≡ true) × (code.now ≡ value_at f (codes "code"))
+    (bytes_eq name (codes "check") ≡ false) × (bytes_eq name (codes "reach") ≡ false) × (bytes_eq name (codes "explain") ≡ true)
+    × (code.now ≡ value_at f (codes "code"))
 
 -- the subcommand isn't `explain`, and both flags are there
 abbrev pub Contradicts : Text → Found → Type 0

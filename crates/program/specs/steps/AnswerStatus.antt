@@ -1,12 +1,16 @@
 -- The statuses of intermediate results.
 use Rattle.std.specs.Prelude.{Bool, Result, Ok, Err, ⊤}
-use Rattle.program.specs.Status.{of_end}
+use Rattle.program.specs.Status.{of_end, of_met}
 use Rattle.program.specs.declared.status.Status.{Status}
 use Rattle.program.specs.declared.status.Status.TheVariants.{Success}
 
 abbrev pub replay_status : Result Bool Status → Status
 replay_status (Ok torn) = of_end torn
 replay_status (Err status) = status
+
+abbrev pub reach_status : Result Bool Status → Status
+reach_status (Ok all_met) = of_met all_met
+reach_status (Err status) = status
 
 abbrev pub check_status : Result ⊤ Status → Status
 check_status (Ok _) = Success

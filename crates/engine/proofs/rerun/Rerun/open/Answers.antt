@@ -1,5 +1,5 @@
-use Rattle.engine.proofs.Names.{EngineState, Represents, [], ap, arith, refl, subst, sym, ◌∙◌, ◌≡◌}
-use Rattle.engine.proofs.Meanings.{accepted_of}
+use Rattle.engine.proofs.Names.{EngineState, Represents, [], ap, arith, err_from_is_err_and, refl, subst, sym, ◌∙◌, ◌≡◌}
+use Rattle.engine.proofs.Meanings.{accepted_of, refuses_header}
 use Rattle.engine.proofs.rerun.Rerun.open.Goals as goal
 use Rattle.pcap_io.specs.CaptureStates.{CaptureState}
 
@@ -30,3 +30,9 @@ returns-clause-begun g c =
       },
       refl,
     )
+
+pub returns-in_err-records-clause-refusals : goal.returns-in_err-records-clause-refusals
+returns-in_err-records-clause-refusals g c =
+    let q = err_from_is_err_and c.from_residual-in_err-records.result c.from_residual-in_err-records.ensures.1 in
+    rw (q.1, q.2) (refuses_header c.args.rules.now c.args.plant.now (g.R.Read.remaining c.args.capture.now.inner)
+    c.in_err-records.field-0.0 (accepted_of c.in_ok-checked.ensures.fine) c.in_err-records.ensures.refused)

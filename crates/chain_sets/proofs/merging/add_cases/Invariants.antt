@@ -1,0 +1,6 @@
+use Rattle.std.proofs.Common.{drop}
+use Rattle.chain_sets.proofs.Cases.{AddsSoFar}
+use Rattle.chain_sets.proofs.merging.add_cases.Given as goal
+
+abbrev pub invariant-loop-case : goal.invariant-loop-case
+invariant-loop-case g l = AddsSoFar l.fn.diagrams l.diagrams (drop l.case-index l.more) l.more l.fn.cases.items l.cases.items

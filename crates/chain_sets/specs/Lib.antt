@@ -1,0 +1,5 @@
+pub mod Errors
+pub mod Ends
+pub mod RuleSets
+pub mod ChainSets
+pub mod steps

@@ -1,0 +1,54 @@
+-- Where packets are behind a rule.
+use Rattle.std.specs.Prelude.{Option, Some, None}
+use Rattle.std.specs.Option.{option_map}
+use Rattle.rule_meaning.specs.declared.event.HookVerdict.{HookVerdict}
+use Rattle.rule_meaning.specs.declared.event.HookVerdict.TheVariants as hooks
+use Rattle.rule_meaning.specs.declared.event.RuleVerdict.{RuleVerdict}
+use Rattle.rule_meaning.specs.declared.event.RuleVerdict.TheVariants as verdicts
+use Rattle.fact_sets.specs.declared.cases.Case.{Case}
+use Rattle.fact_sets.specs.declared.written.Written.{Written}
+use Rattle.rule_sets.specs.declared.ends.End.{End}
+use Rattle.chain_sets.specs.declared.outcomes.ChainEnd.{ChainEnd}
+use Rattle.chain_sets.specs.declared.outcomes.Turn.{Turn}
+use Rattle.chain_sets.specs.declared.outcomes.Course.{Course}
+use Rattle.chain_sets.specs.declared.outcomes.Course.TheVariants.{To, Jump, Goto}
+use Rattle.chain_sets.specs.declared.outcomes.Exit.{Exit}
+use Rattle.chain_sets.specs.declared.outcomes.Exit.TheVariants.{Next, Ends}
+
+abbrev pub turn_at : End → Turn
+turn_at e = record { verdict = e.verdict; written = e.written }
+
+abbrev pub end_without : Written → ChainEnd
+end_without written = record { verdict = None; written = written }
+
+-- behind a jump
+abbrev pub back_by : Option HookVerdict → ChainEnd → Exit
+back_by None e = Next e.written
+back_by (Some verdict) e = Ends e
+
+abbrev pub back_from : ChainEnd → Exit
+back_from e = back_by e.verdict e
+
+abbrev pub written_next : Exit → Option Written
+written_next (Next written) = Some written
+written_next (Ends e) = None
+
+abbrev pub end_in : Exit → Option ChainEnd
+end_in (Next written) = None
+end_in (Ends e) = Some e
+
+-- a case, where its outcome has a part
+abbrev pub case_if : {V W : Type 0} → (V → Option W) → Case V → Option (Case W)
+case_if part c = option_map (λ w. record { set = c.set; outcome = w }) (part c.outcome)
+
+-- what becomes of packets behind a rule with this verdict
+abbrev pub course_by : Option RuleVerdict → Written → Course
+course_by None written = To (Next written)
+course_by (Some verdicts.Continue) written = To (Next written)
+course_by (Some verdicts.Accept) written = To (Ends (record { verdict = Some hooks.Accepted; written = written }))
+course_by (Some verdicts.Drop) written = To (Ends (record { verdict = Some hooks.Dropped; written = written }))
+course_by (Some (verdicts.Translate action)) written =
+    To (Ends (record { verdict = Some (hooks.Translated action); written = written }))
+course_by (Some verdicts.Return) written = To (Ends (record { verdict = None; written = written }))
+course_by (Some (verdicts.Jump chain)) written = Jump chain
+course_by (Some (verdicts.Goto chain)) written = Goto chain

@@ -1,0 +1,77 @@
+//! Cases with equal outcomes as one.
+ghost use Rattle.std.specs.Prelude.{◌≡◌, ◌≤◌, ◌<◌, ◌∷◌, [], true, length, slice_get, Some, IfSome, IfErr, OnOk};
+ghost use Rattle.std.specs.Option.{option_map};
+ghost use Rattle.packet_sets.specs.Sets.{IsSet, Keeps};
+ghost use Rattle.packet_sets.specs.declared.fault.SetError.TheVariants.{TooLarge};
+ghost use Rattle.fact_sets.specs.Effects.{AreCases};
+ghost use Rattle.chain_sets.specs.steps.Merging.{Adds};
+
+use fact_sets::Case;
+use packet_sets::{Diagrams, SetError};
+
+/// An outcome by which cases are merged.
+pub(crate) trait Merge: Copy {
+    /// Whether the other is the same.
+    fn is(&self, other: &Self) -> bool
+        ensures { result ≡ true → self.now ≡ other.now };
+}
+
+/// The index of a case that has this outcome.
+fn place_of<V: Merge>(cases: &[Case<V>], outcome: &V) -> Option<usize>
+    ensures { IfSome result (λ place. option_map (λ c. c.outcome) (slice_get cases.now place)
+        ≡ Some outcome.now) }
+{
+    for (place, case) in cases.iter().enumerate() {
+        if case.outcome.is(outcome) {
+            return Some(place);
+        }
+    }
+    None
+}
+
+/// Adds a case: where another has its outcome, to that one. It is left out where it has no packet.
+pub(crate) fn add_case<V: Merge>(
+    diagrams: &mut Diagrams,
+    cases: &mut Vec<Case<V>>,
+    case: Case<V>,
+) -> Result<(), SetError>
+    requires set { IsSet diagrams.old case.set }
+    requires cases { AreCases diagrams.old cases.old.items }
+    ensures keeps { Keeps diagrams.old diagrams.new }
+    ensures adds { OnOk result
+        (Adds diagrams.old diagrams.new (case ∷ []) cases.old.items cases.new.items) }
+    ensures too_large { IfErr result (λ e. e ≡ TooLarge
+        → diagrams.new.limit ≤ length diagrams.new.nodes) }
+{
+    if diagrams.is_none(case.set) {
+        return Ok(());
+    }
+    match place_of(cases, &case.outcome) {
+        Some(place) => {
+            let set = diagrams.or(cases[place].set, case.set)?;
+            cases[place].set = set;
+        }
+        None => cases.push(case)?,
+    }
+    Ok(())
+}
+
+/// Adds these cases.
+pub(crate) fn add_cases<V: Merge>(
+    diagrams: &mut Diagrams,
+    cases: &mut Vec<Case<V>>,
+    more: &[Case<V>],
+) -> Result<(), SetError>
+    requires more { AreCases diagrams.old more.now }
+    requires cases { AreCases diagrams.old cases.old.items }
+    ensures keeps { Keeps diagrams.old diagrams.new }
+    ensures adds { OnOk result
+        (Adds diagrams.old diagrams.new more.now cases.old.items cases.new.items) }
+    ensures too_large { IfErr result (λ e. e ≡ TooLarge
+        → diagrams.new.limit ≤ length diagrams.new.nodes) }
+{
+    for case in more {
+        add_case(diagrams, cases, *case)?;
+    }
+    Ok(())
+}

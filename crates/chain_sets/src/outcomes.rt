@@ -1,0 +1,250 @@
+//! Where packets are behind a rule, and how their ways end.
+ghost use Rattle.std.specs.Prelude.{◌≡◌, ◌∷◌, [], map, true, IfOk, None};
+ghost use Rattle.std.specs.List.{filter_map};
+ghost use Rattle.chain_sets.specs.steps.Outcomes.{back_from, case_if, end_in, end_without, course_by, turn_at, written_next};
+ghost use Rattle.chain_sets.specs.steps.Merging.{with_outcome};
+
+use crate::merging::Merge;
+use fact_sets::{Case, Written};
+use packet_sets::PacketSet;
+use rule_meaning::{HookVerdict, RuleVerdict};
+use rule_sets::End;
+use std::alloc::{AllocError, Global};
+
+/// How the ways of packets through a base chain end: with a verdict, or at the chain's end (`None`),
+/// where its policy applies; and what rules have written then.
+#[derive(Clone, Copy)]
+pub struct ChainEnd {
+    pub verdict: Option<HookVerdict>,
+    pub written: Written,
+}
+
+/// Where a rule has ended: its verdict, if it gave one, and what rules have written then.
+#[derive(Clone, Copy)]
+pub(crate) struct Turn {
+    pub(crate) verdict: Option<RuleVerdict>,
+    pub(crate) written: Written,
+}
+
+/// Where packets are behind a rule.
+#[derive(Clone, Copy)]
+pub(crate) enum Exit {
+    /// At the next rule of its chain.
+    Next(Written),
+    /// At an end of its chain.
+    Ends(ChainEnd),
+}
+
+/// Whether it is the same verdict.
+fn same_verdict(left: HookVerdict, right: HookVerdict) -> bool
+    ensures { result ≡ true → left ≡ right }
+{
+    match (left, right) {
+        (HookVerdict::Accepted, HookVerdict::Accepted) => true,
+        (HookVerdict::Dropped, HookVerdict::Dropped) => true,
+        (HookVerdict::Translated(left), HookVerdict::Translated(right)) => left == right,
+        _ => false,
+    }
+}
+
+/// Whether both have the same verdict, or none.
+fn same_result(left: Option<HookVerdict>, right: Option<HookVerdict>) -> bool
+    ensures { result ≡ true → left ≡ right }
+{
+    match (left, right) {
+        (None, None) => true,
+        (Some(left), Some(right)) => same_verdict(left, right),
+        _ => false,
+    }
+}
+
+/// Whether both rules gave the same verdict, or none.
+fn same_rule_verdict(left: Option<RuleVerdict>, right: Option<RuleVerdict>) -> bool
+    ensures { result ≡ true → left ≡ right }
+{
+    match (left, right) {
+        (None, None) => true,
+        (Some(left), Some(right)) => left == right,
+        _ => false,
+    }
+}
+
+impl Merge for Turn {
+    fn is(&self, other: &Self) -> bool {
+        self.written == other.written && same_rule_verdict(self.verdict, other.verdict)
+    }
+}
+
+impl Merge for ChainEnd {
+    fn is(&self, other: &Self) -> bool {
+        self.written == other.written && same_result(self.verdict, other.verdict)
+    }
+}
+
+impl Merge for Exit {
+    fn is(&self, other: &Self) -> bool {
+        match (self, other) {
+            (Exit::Next(left), Exit::Next(right)) => *left == *right,
+            (Exit::Ends(left), Exit::Ends(right)) => left.is(right),
+            _ => false,
+        }
+    }
+}
+
+/// Where the rule has ended with these ends.
+pub(crate) fn turns_of(alloc: Global, ends: &[Case<End>]) -> Result<Vec<Case<Turn>>, AllocError>
+    ensures { IfOk result (λ turns. turns.items ≡ map (with_outcome turn_at) ends.now) }
+{
+    let mut turns = Vec::new(alloc);
+    for end in ends {
+        turns.push(Case {
+            set: end.set,
+            outcome: Turn {
+                verdict: end.outcome.verdict,
+                written: end.outcome.written,
+            },
+        })?;
+    }
+    Ok(turns)
+}
+
+/// These packets at one exit.
+pub(crate) fn one_exit(
+    alloc: Global,
+    set: PacketSet,
+    outcome: Exit,
+) -> Result<Vec<Case<Exit>>, AllocError>
+    ensures { IfOk result (λ exits. exits.items ≡ record { set = set; outcome = outcome } ∷ []) }
+{
+    let mut exits = Vec::new(alloc);
+    exits.push(Case { set, outcome })?;
+    Ok(exits)
+}
+
+/// Where packets are behind a jump to a chain that ends so: where it gave no verdict, at the next
+/// rule.
+fn exit_back(end: ChainEnd) -> Exit
+    ensures { result ≡ back_from end }
+{
+    match end.verdict {
+        None => Exit::Next(end.written),
+        Some(_) => Exit::Ends(end),
+    }
+}
+
+/// Where they are behind a jump to a chain with these ends.
+pub(crate) fn back(alloc: Global, ends: &[Case<ChainEnd>]) -> Result<Vec<Case<Exit>>, AllocError>
+    ensures { IfOk result (λ exits. exits.items ≡ map (with_outcome back_from) ends.now) }
+{
+    let mut exits = Vec::new(alloc);
+    for end in ends {
+        exits.push(Case {
+            set: end.set,
+            outcome: exit_back(end.outcome),
+        })?;
+    }
+    Ok(exits)
+}
+
+/// Where they are behind a goto: their chain ends where the other does.
+pub(crate) fn gone(alloc: Global, ends: &[Case<ChainEnd>]) -> Result<Vec<Case<Exit>>, AllocError>
+    ensures { IfOk result (λ exits. exits.items ≡ map (with_outcome Exit.Ends) ends.now) }
+{
+    let mut exits = Vec::new(alloc);
+    for end in ends {
+        exits.push(Case {
+            set: end.set,
+            outcome: Exit::Ends(end.outcome),
+        })?;
+    }
+    Ok(exits)
+}
+
+/// Those that are at the next rule.
+pub(crate) fn next(alloc: Global, exits: &[Case<Exit>]) -> Result<Vec<Case<Written>>, AllocError>
+    ensures { IfOk result (λ states. states.items ≡ filter_map (case_if written_next) exits.now) }
+{
+    let mut states = Vec::new(alloc);
+    for exit in exits {
+        if let Exit::Next(written) = exit.outcome {
+            states.push(Case {
+                set: exit.set,
+                outcome: written,
+            })?;
+        }
+    }
+    Ok(states)
+}
+
+/// Those that are at an end of the chain.
+pub(crate) fn chain_ends(
+    alloc: Global,
+    exits: &[Case<Exit>],
+) -> Result<Vec<Case<ChainEnd>>, AllocError>
+    ensures { IfOk result (λ ends. ends.items ≡ filter_map (case_if end_in) exits.now) }
+{
+    let mut ends = Vec::new(alloc);
+    for exit in exits {
+        if let Exit::Ends(end) = exit.outcome {
+            ends.push(Case {
+                set: exit.set,
+                outcome: end,
+            })?;
+        }
+    }
+    Ok(ends)
+}
+
+/// Packets that no rule is left for: they are at the chain's end.
+pub(crate) fn ended(
+    alloc: Global,
+    states: &[Case<Written>],
+) -> Result<Vec<Case<ChainEnd>>, AllocError>
+    ensures { IfOk result (λ ends. ends.items ≡ map (with_outcome end_without) states.now) }
+{
+    states
+        .iter()
+        .map(|state| Case {
+            set: state.set,
+            outcome: ChainEnd {
+                verdict: None,
+                written: state.outcome,
+            },
+        })
+        .collect(alloc)
+}
+
+/// What becomes of the packets of a turn.
+#[derive(Clone, Copy)]
+pub(crate) enum Course {
+    To(Exit),
+    /// Through the chain with this index, and then to the next rule.
+    Jump(u32),
+    /// Through that chain in place of the rest of this one.
+    Goto(u32),
+}
+
+/// At the end of the chain, or with a verdict for the base chain.
+fn at_end(verdict: Option<HookVerdict>, written: Written) -> Course
+    ensures { result ≡ Course.To (Exit.Ends (record { verdict = verdict; written = written })) }
+{
+    Course::To(Exit::Ends(ChainEnd { verdict, written }))
+}
+
+/// What becomes of them, by the rule's verdict.
+pub(crate) fn course_of(turn: Turn) -> Course
+    ensures { result ≡ course_by turn.verdict turn.written }
+{
+    let written = turn.written;
+    match turn.verdict {
+        None | Some(RuleVerdict::Continue) => Course::To(Exit::Next(written)),
+        Some(RuleVerdict::Accept) => at_end(Some(HookVerdict::Accepted), written),
+        Some(RuleVerdict::Drop) => at_end(Some(HookVerdict::Dropped), written),
+        Some(RuleVerdict::Translate(action)) => {
+            at_end(Some(HookVerdict::Translated(action)), written)
+        }
+        Some(RuleVerdict::Return) => at_end(None, written),
+        Some(RuleVerdict::Jump(chain)) => Course::Jump(chain),
+        Some(RuleVerdict::Goto(chain)) => Course::Goto(chain),
+    }
+}

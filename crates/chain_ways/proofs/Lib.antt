@@ -1,0 +1,7 @@
+mod Along
+mod BaseChains
+mod Costs
+mod Events
+mod Fitting
+mod Lists
+mod Visits
