@@ -13,10 +13,10 @@ pub(crate) struct Index {
     before: Vec<u32>,
 }
 
-/// The first number of buckets.
+/// The first number of buckets, a power of two, as all later ones.
 const BUCKETS: usize = 4096;
 
-/// The bucket of a node.
+/// The bucket of a node. No division: it would take longer than the rest.
 fn bucket_of(branch: Branch, buckets: usize) -> usize
     requires { 0 < buckets }
     ensures { result < buckets }
@@ -25,7 +25,7 @@ fn bucket_of(branch: Branch, buckets: usize) -> usize
     let low = u64::from(branch.low).wrapping_mul(0xc2b2_ae3d_27d4_eb4f);
     let high = u64::from(branch.high).wrapping_mul(0x1656_67b1_9e37_79f9);
     let mixed = bit ^ low ^ high;
-    ((mixed ^ (mixed >> 29)) % buckets as u64) as usize
+    ((mixed ^ (mixed >> 29)) & (buckets as u64 - 1)) as usize
 }
 
 impl Index {
@@ -64,9 +64,10 @@ impl Index {
         None
     }
 
-    /// Adds the nodes that it hasn't yet, with twice the buckets where they are more than these.
+    /// Adds the nodes that it hasn't yet, with twice the buckets where there are fewer than two for
+    /// each node: so most buckets have one node at most.
     pub(crate) fn add(&mut self, alloc: Global, nodes: &[Branch]) -> Result<(), AllocError> {
-        if nodes.len() > self.last.len() && self.last.len() < 0x4000_0000 {
+        if nodes.len() > self.last.len() / 2 && self.last.len() < 0x4000_0000 {
             let last = vec![in alloc; 0; self.last.len() * 2]?;
             self.before = Vec::with_capacity(alloc, nodes.len())?;
             self.last = last;

@@ -24,7 +24,7 @@ const BEGIN: Entry = Entry {
     result: 0,
 };
 
-/// The least and the greatest size.
+/// The least and the greatest size, powers of two, as those between.
 const LEAST: usize = 4096;
 
 const GREATEST: usize = 0x10_0000;
@@ -48,7 +48,7 @@ fn place_of(operation: Operation, left: u32, right: u32, places: usize) -> usize
     let first = u64::from(left).wrapping_mul(0x9e37_79b9_7f4a_7c15);
     let second = u64::from(right).wrapping_mul(0xc2b2_ae3d_27d4_eb4f);
     let mixed = first ^ second ^ salt;
-    ((mixed ^ (mixed >> 29)) % places as u64) as usize
+    ((mixed ^ (mixed >> 29)) & (places as u64 - 1)) as usize
 }
 
 impl Memo {
