@@ -14,13 +14,23 @@ pub(crate) trait Merge: Copy {
     /// Whether the other is the same.
     fn is(&self, other: &Self) -> bool
         ensures { result ≡ true → self.now ≡ other.now };
+
+    /// Whether nothing more becomes of packets with it.
+    fn is_final(&self) -> bool;
 }
 
-/// The index of a case that has this outcome.
+/// With so many cases, final ones are merged too.
+const APART: usize = 0x4000;
+
+/// The index of a case to which one with this outcome is added, if it is. Final ones stay apart: the
+/// packets of many rules' verdicts as one set can take far more nodes than those of each.
 fn place_of<V: Merge>(cases: &[Case<V>], outcome: &V) -> Option<usize>
     ensures { IfSome result (λ place. option_map (λ c. c.outcome) (slice_get cases.now place)
         ≡ Some outcome.now) }
 {
+    if outcome.is_final() && cases.len() < APART {
+        return None;
+    }
     for (place, case) in cases.iter().enumerate() {
         if case.outcome.is(outcome) {
             return Some(place);

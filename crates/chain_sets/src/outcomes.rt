@@ -73,11 +73,19 @@ impl Merge for Turn {
     fn is(&self, other: &Self) -> bool {
         self.written == other.written && same_rule_verdict(self.verdict, other.verdict)
     }
+
+    fn is_final(&self) -> bool {
+        false
+    }
 }
 
 impl Merge for ChainEnd {
     fn is(&self, other: &Self) -> bool {
         self.written == other.written && same_result(self.verdict, other.verdict)
+    }
+
+    fn is_final(&self) -> bool {
+        self.verdict.is_some()
     }
 }
 
@@ -87,6 +95,13 @@ impl Merge for Exit {
             (Exit::Next(left), Exit::Next(right)) => *left == *right,
             (Exit::Ends(left), Exit::Ends(right)) => left.is(right),
             _ => false,
+        }
+    }
+
+    fn is_final(&self) -> bool {
+        match self {
+            Exit::Next(_) => false,
+            Exit::Ends(end) => end.is_final(),
         }
     }
 }
