@@ -5,7 +5,7 @@ import unittest
 
 import support
 from toolbox.hits import Hits
-from toolbox.reach import never_met
+from toolbox.never_met import never_met
 from toolbox.reports import Summary
 from toolbox.lexer import tokens_of
 from toolbox.rulesets import Ruleset, priority_of, read_ruleset
@@ -113,7 +113,7 @@ class AgainstReports(unittest.TestCase):
         self.assertGreater(seen, 10)
 
 
-class Reach(unittest.TestCase):
+class NeverMet(unittest.TestCase):
     def test_reasons(self) -> None:
         text = '''table inet t {
 	chain in { type filter hook input priority 0; iifname "lo" accept; oifname "wan" drop; accept; drop; jump gone }

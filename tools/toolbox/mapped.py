@@ -2,12 +2,14 @@
 from __future__ import annotations
 
 from dataclasses import dataclass
-from typing import TYPE_CHECKING, Mapping, Sequence
+from typing import TYPE_CHECKING, Sequence
 
 from toolbox.commands import Refused, plural, read_bytes, say
+from toolbox.could_meet import COULD
 from toolbox.rulemap import map_of
 
 if TYPE_CHECKING:
+    from toolbox.could_meet import CouldMeet
     from toolbox.hits import Hits
     from toolbox.rulemap import RuleMap
     from toolbox.rulesets import Rule, Ruleset
@@ -37,8 +39,8 @@ def maps_of(paths: Sequence[str], *rulesets: str) -> list[RuleMap | None]:
 class MappedRules:
     """The operator's rules in the order of his text, with what became of them."""
 
-    def __init__(self, origins: RuleMap, ruleset: Ruleset, hits: Hits, reasons: Mapping[tuple[str, int], str]) -> None:
-        self.origins, self.hits, self.reasons = origins, hits, reasons
+    def __init__(self, origins: RuleMap, ruleset: Ruleset, hits: Hits, known: CouldMeet) -> None:
+        self.origins, self.hits, self.known = origins, hits, known
         found: dict[tuple[str, int, str, int], OldRule] = {}
         for rule in ruleset.rules:
             origin = origins.origin(*rule.place)
@@ -71,11 +73,15 @@ class MappedRules:
         return "?" if number is None else str(number)
 
     def is_never(self, old: OldRule) -> bool:
-        return all(rule.place in self.reasons for rule in old.rules)
+        return all(rule.place in self.known.never for rule in old.rules)
 
     def reason(self, old: OldRule) -> str:
         """Why no packet can meet the rule: of each rule that it became, where they differ."""
-        return "; ".join(dict.fromkeys(self.reasons[rule.place] for rule in old.rules))
+        return "; ".join(dict.fromkeys(self.known.never[rule.place] for rule in old.rules))
+
+    def could(self, old: OldRule) -> str:
+        """That a packet could meet the rule, if one of those that it became could be met."""
+        return f"  ({COULD})" if any(rule.place in self.known.could for rule in old.rules) else ""
 
     def is_unmet(self, old: OldRule) -> bool:
         seen = [rule for rule in old.rules if self.hits.number(rule) is not None]
@@ -95,7 +101,9 @@ class MappedRules:
         say()
         say(f"{len(unmet)} of {plural(len(self.rules), 'rule')} met no packet")
         for old in unmet:
-            say(f"  {old.file}:{old.line}: {old.chain} {old.number}: {old.text}")
+            say(f"  {old.file}:{old.line}: {old.chain} {old.number}: {old.text}{self.could(old)}")
+        if unmet:
+            self.known.print_unknown()
         never = [old for old in self.rules if not self.number(old) and self.is_never(old)]
         if never:
             say()

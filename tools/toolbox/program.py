@@ -42,9 +42,10 @@ def run(
     return status == TORN
 
 
-def run_child(words: Sequence[str], output: int = subprocess.DEVNULL) -> tuple[int, str]:
+def run_child(
+        words: Sequence[str], output: int = subprocess.DEVNULL, seconds: float | None = None) -> tuple[int, str]:
     """The status of a program, and what it said on standard error; `output` is the file that its own output goes to.
-    A signal that ends this command ends it, too."""
+    A signal that ends this command ends it, too; so do so many seconds, with subprocess.TimeoutExpired."""
     with signals.held():
         try:
             child = subprocess.Popen(words, stdin=subprocess.DEVNULL, stdout=output, stderr=subprocess.PIPE)
@@ -53,7 +54,7 @@ def run_child(words: Sequence[str], output: int = subprocess.DEVNULL) -> tuple[i
         with child:
             try:
                 with signals.allowed():
-                    _, errors = child.communicate()
+                    _, errors = child.communicate(timeout=seconds)
             except BaseException:
                 child.kill()
                 raise

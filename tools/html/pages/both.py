@@ -8,11 +8,10 @@ from typing import TYPE_CHECKING, Iterator, Sequence
 from pages.aligned import Alignment, Line, Mark, Pair, version
 from pages.listing import coloured, indent_of
 from pages.texts import number, plural, shown
-from toolbox.reach import never_met
 
 if TYPE_CHECKING:
     from pages.model import RuleHits
-    from toolbox.boxes import Box
+    from toolbox.could_meet import CouldMeet
     from toolbox.evidence import Change, Side
     from toolbox.rulesets import Chain, Rule
 
@@ -26,18 +25,19 @@ UNMET, UNTOLD = "met by no packet", "a run doesn't tell whether a packet met it"
 
 @dataclass(frozen=True)
 class Noted:
-    """A change that nothing is known of: its text as compare has it, and the id of its line on the page."""
+    """A change that no packet met: its text as compare has it, the id of its line on the page, and whether a packet
+    could meet it, where that is known."""
 
     text: str
     line: str
+    remark: str | None
 
 
 class Text:
     """One of the rulesets, with the hits of its own run. `letter` begins the ids of its lines."""
 
-    def __init__(self, side: Side, box: Box, hits: RuleHits, letter: str) -> None:
-        self.side, self.hits, self.letter = side, hits, letter
-        self.never = never_met(side.ruleset, box)
+    def __init__(self, side: Side, known: CouldMeet, hits: RuleHits, letter: str) -> None:
+        self.side, self.known, self.hits, self.letter = side, known, hits, letter
         self.rules: dict[int, list[tuple[int, Rule]]] = {}
         for index, rule in enumerate(side.ruleset.rules):
             self.rules.setdefault(rule.line, []).append((index, rule))
@@ -49,7 +49,7 @@ class Text:
         for change in side.changes:
             doubt = {False: UNMET, None: UNTOLD}.get(self.is_met(change))
             if doubt:
-                self.doubts[self.line_of(change)] = doubt
+                self.doubts[self.line_of(change)] = self.with_remark(doubt, change)
 
     def is_met(self, change: Change) -> bool | None:
         """Whether a packet met what differs; the second run tells it of rules that decide nothing, too."""
@@ -58,6 +58,17 @@ class Text:
             return met
         held = self.hits.of(change.rule)
         return None if held is None else held > 0
+
+    def remark(self, change: Change) -> str | None:
+        """Whether a packet could meet a rule that differs, if that is known."""
+        return self.known.remark(change.rule.place) if change.rule else None
+
+    def with_remark(self, doubt: str, change: Change) -> str:
+        """That nothing is known of a change that no packet met, with whether one could."""
+        remark = self.remark(change)
+        if doubt is UNMET and remark and change.rule and change.rule.place in self.known.never:
+            return remark
+        return f"{doubt}; {remark}" if remark else doubt
 
     @staticmethod
     def line_of(change: Change) -> int:
@@ -70,7 +81,7 @@ class Text:
             text = self.side.text(change)
             if self.side.is_met(change) is met and text not in known:
                 known.add(text)
-                yield Noted(text, f"{self.letter}{self.line_of(change)}")
+                yield Noted(text, f"{self.letter}{self.line_of(change)}", self.remark(change))
 
     def hits_at(self, line: int) -> list[int | None]:
         """What the policies and rules on a line were met by, in their order."""
@@ -89,12 +100,13 @@ class Text:
 
     def rule_html(self, index: int, rule: Rule) -> str:
         label = f"rule {rule.number} of {rule.chain}"
-        if rule.place in self.never:
-            return f'<span class="unmet" title="{shown(label)}: {shown(self.never[rule.place])}">no run</span>'
-        hits = self.hits.of(rule)
+        hits, remark = self.hits.of(rule), self.known.remark(rule.place)
+        if not hits and rule.place in self.known.never:
+            return f'<span class="unmet" title="{shown(label)}: {shown(remark)}">no run</span>'
         if hits is None:
             return f'<span title="{shown(label)}: a report can\'t tell">?</span>'
-        return self.count_html(hits, f"{label}: {plural(hits, 'packet')}", f"#rule={index}")
+        words = [plural(hits, "packet")] + ([remark] if remark and not hits else [])
+        return self.count_html(hits, f"{label}: {'; '.join(words)}", f"#rule={index}")
 
     def count_html(self, hits: int, title: str, link: str) -> str:
         kind = "" if hits else ' class="unmet"'

@@ -7,6 +7,7 @@ from pages.both import Both, Text
 from pages.model import hits_of
 from pages.texts import number, plural, shown
 from pages.verdict import uncompared, verdict
+from toolbox.could_meet import could_meet
 from toolbox.differences import BLOCKED, OPENED, OTHERWISE, REWRITTEN, Groups, Sight, differing
 from toolbox.evidence import Evidence
 from toolbox.flows import Flows
@@ -20,6 +21,7 @@ if TYPE_CHECKING:
     from pages.both import Noted
     from pages.model import RuleHits
     from toolbox.boxes import Box
+    from toolbox.could_meet import CouldMeet
     from toolbox.differences import Group, Told
 
 KINDS = (OPENED, BLOCKED, REWRITTEN, OTHERWISE)
@@ -80,11 +82,13 @@ class Change:
         return [[group.number, group.kind, told_text(group.old), told_text(group.new), self.records[group.number]]
                 for group in self.groups.all]
 
-    def texts(self, hits: RuleHits, folder: str) -> tuple[Text, Text]:
-        """Both rulesets with the hits of each in its own run; `hits` are those of the new one."""
+    def texts(self, hits: RuleHits, known: CouldMeet, seconds: int, folder: str) -> tuple[Text, Text]:
+        """Both rulesets with the hits of each in its own run; `hits` are those of the new one, and `known` what is
+        known of its rules. So many seconds are left for what is asked of the old one."""
         old, new = self.evidence.sides
         before = hits_of(self.program, self.before, folder)
-        return Text(old, self.box, before, "O"), Text(new, self.box, hits, "N")
+        old_known = could_meet(old.ruleset, self.before.rules, self.box, seconds)
+        return Text(old, old_known, before, "O"), Text(new, known, hits, "N")
 
 
 def html_of(change: Change, texts: tuple[Text, Text], old_name: str, new_name: str) -> str:
@@ -103,9 +107,11 @@ def html_of(change: Change, texts: tuple[Text, Text], old_name: str, new_name: s
         groups = change.of_kind(kind)
         if groups or kind in (OPENED, BLOCKED):
             parts.append(kind_html(change, kind, groups))
-    for met, title in ((False, "These changes were met by no packet, and nothing is known of them:"),
+    for met, title in ((False, "These changes were met by no packet, and the run tells nothing of them:"),
                        (None, "Whether a packet met these changes a run doesn't tell:")):
-        parts.append(noted_html(title, [one for text in texts for one in text.noted(met)]))
+        noted = [one for text in texts for one in text.noted(met)]
+        unknown = dict.fromkeys(filter(None, (text.known.unknown_text() for text in texts)))
+        parts.append(noted_html(title, noted, list(unknown)))
     return "".join(parts)
 
 
@@ -113,13 +119,20 @@ def both_html(texts: tuple[Text, Text], old_name: str, new_name: str) -> str:
     return Both(*texts, old_name, new_name).html()
 
 
-def noted_html(title: str, noted: Sequence[Noted]) -> str:
-    """Changes of which a run tells nothing, each with a link to its line."""
+def noted_html(title: str, noted: Sequence[Noted], unknown: Sequence[str]) -> str:
+    """Changes of which a run tells nothing, each with a link to its line and whether a packet could meet it; below why
+    that is unknown, if it is."""
     if not noted:
         return ""
-    rows = "".join(f'<li><a href="#{one.line}"><code>{shown(one.text)}</code></a></li>' for one in noted[:MOST_NOTED])
+    rows = "".join(noted_row(one) for one in noted[:MOST_NOTED])
     rest = f"<li>and {number(len(noted) - MOST_NOTED)} more, marked below</li>" if len(noted) > MOST_NOTED else ""
-    return f'<div class="bound noted"><p>{shown(title)}</p><ul>{rows}{rest}</ul></div>'
+    lines = "".join(f"<p>{shown(line[0].upper() + line[1:])}.</p>" for line in unknown)
+    return f'<div class="bound noted"><p>{shown(title)}</p><ul>{rows}{rest}</ul>{lines}</div>'
+
+
+def noted_row(one: Noted) -> str:
+    remark = f" ({shown(one.remark)})" if one.remark else ""
+    return f'<li><a href="#{one.line}"><code>{shown(one.text)}</code></a>{remark}</li>'
 
 
 def kind_html(change: Change, kind: str, groups: Sequence[Group]) -> str:

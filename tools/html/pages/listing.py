@@ -5,16 +5,17 @@ from dataclasses import dataclass
 from typing import TYPE_CHECKING, Sequence
 
 from pages.texts import number, plural, shown
-from toolbox.reach import never_met
 
 if TYPE_CHECKING:
     from pages.model import Model
+    from toolbox.could_meet import CouldMeet
     from toolbox.reports import RuleCounter
     from toolbox.rulemap import Origin, RuleMap
     from toolbox.rulesets import Chain, Rule
 
 MOST_LINES = 6000
 BAR_STEPS = 20
+COULD_BE_MET = "could be met"
 
 
 @dataclass(frozen=True)
@@ -28,14 +29,15 @@ class Counted:
 
 @dataclass(frozen=True)
 class Met:
-    """A rule with how many packets it held for, or None where a report can't tell; `never` is why no packet of a run
-    can meet it."""
+    """A rule with how many packets it held for, or None where a report can't tell; of one without hits `never` is why
+    no packet of a run can meet it, and `could` that one can."""
 
     index: int
     rule: Rule
     hits: int | None
     counters: Sequence[Counted]
     never: str | None
+    could: str | None
     origin: Origin | None
 
     @property
@@ -46,9 +48,9 @@ class Met:
 class Listing:
     """Rules by the lines that they begin on, and policies by those of their chains."""
 
-    def __init__(self, model: Model, origins: RuleMap | None) -> None:
+    def __init__(self, model: Model, known: CouldMeet, origins: RuleMap | None) -> None:
         ruleset = model.ruleset
-        self.model, self.never, self.hits = model, never_met(ruleset, model.box), model.rule_hits()
+        self.model, self.known, self.hits = model, known, model.rule_hits()
         self.counters: dict[tuple[str, int], list[RuleCounter]] = {}
         for counter in model.summary.counters:
             self.counters.setdefault((counter.chain, counter.rule), []).append(counter)
@@ -65,8 +67,11 @@ class Listing:
     def met(self, index: int, rule: Rule, origins: RuleMap | None) -> Met:
         counters = [Counted(counter.packets - start, counter.packets, counter.bytes)
                     for counter, start in zip(self.counters.get(rule.place, []), rule.counter_starts)]
-        return Met(index, rule, self.hits.of(rule, [one.met for one in counters]), counters,
-                   self.never.get(rule.place), origins.origin(*rule.place) if origins else None)
+        hits, place = self.hits.of(rule, [one.met for one in counters]), rule.place
+        is_met = bool(hits) or any(one.met for one in counters)
+        return Met(index, rule, hits, counters, None if is_met else self.known.never.get(place),
+                   COULD_BE_MET if place in self.known.could and not is_met else None,
+                   origins.origin(*place) if origins else None)
 
     def unmet(self) -> list[Met]:
         return [met for met in self.rules if met.is_unmet]
@@ -110,8 +115,9 @@ class Listing:
         title = "; ".join([f"{label}: {plural(met.hits, 'packet')}"] + [
             f"counter {place}: {plural(one.packets, 'packet')}, {plural(one.bytes, 'byte')}"
             for place, one in enumerate(met.counters, 1)])
+        could = "" if met.hits or not met.could else f"{met.could} "
         return (f'<a class="chip{"" if met.hits else " zero"}" href="#rule={met.index}" title="{shown(title)}">'
-                f'<i class="bar b{steps}"></i><b>{number(met.hits)}</b></a>')
+                f'<i class="bar b{steps}"></i>{could}<b>{number(met.hits)}</b></a>')
 
     def policy_chip(self, index: int, chain: Chain) -> str:
         if chain.hook == "output":

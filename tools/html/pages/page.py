@@ -17,6 +17,7 @@ from toolbox.boxes import Box
 from toolbox.captures import called
 from toolbox.commands import DONE, REFUSED, TORN, Refused, check_files, read_bytes, remark
 from toolbox.converted import classic
+from toolbox.could_meet import could_meet
 from toolbox.evidence import torn_text
 from toolbox.program import workspace
 from toolbox.rulesets import read_ruleset
@@ -30,7 +31,7 @@ ASIDE = {UNSENT: "not sent", COPY: "outgoing copies"}
 @dataclass(frozen=True)
 class Options:
     """What a page is made of: paths of a ruleset, a box file and a capture, of the ruleset that is replaced and the map
-    of a fitted one, if there are any; and how many records can be looked at."""
+    of a fitted one, if there are any; how many records can be looked at, and how many seconds nftrun reach may take."""
 
     rules: str
     box: str
@@ -38,6 +39,7 @@ class Options:
     against: str | None
     map: str | None
     records: int
+    reach: int
 
 
 class Page:
@@ -51,8 +53,10 @@ class Page:
                        if options.against else None)
         self.model = Model(options.rules, self.box, options.capture, self.ruleset, options.records,
                            self.change.after if self.change else None)
-        self.listing = Listing(self.model, origins)
-        self.texts = self.change.texts(self.model.rule_hits(), folder) if self.change else None
+        self.known = could_meet(self.ruleset, options.rules, self.box, options.reach)
+        self.listing = Listing(self.model, self.known, origins)
+        self.texts = (self.change.texts(self.model.rule_hits(), self.known, options.reach, folder)
+                      if self.change else None)
 
     def html(self) -> str:
         rules, capture = (os.path.basename(path) for path in (self.options.rules, called(self.options.capture)))
@@ -101,6 +105,9 @@ class Page:
         told = "" if self.model.tells else (
             '<p class="bound">The ruleset has no room for a second run that tells which rules held without deciding: '
             "a <code>?</code> stands at some.</p>")
+        unknown = self.known.unknown_text() if unmet else None
+        if unknown:
+            told += f'<p class="bound">Of rules that met no packet: {shown(unknown)}.</p>'
         return (f'<div class="work"><section id="rules"><h2>Rules</h2><p class="lead">{", ".join(words)}. The number '
                 "tells for how many packets a rule held; choose it to see them.</p>"
                 f'{told}<div class="listing">{listing.html()}</div></section>'
