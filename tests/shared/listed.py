@@ -94,6 +94,8 @@ TESTS = (
          Wanted.NONE),
     Test("linux-sections", "linux/check-sections", Place.BY_HAND, "docs/LINUX.md beside this kernel (root)",
          Wanted.NONE),
+    Test("linux-reach", "linux/check-reach", Place.BY_HAND, "which rules packets can meet, beside this kernel (root)",
+         Wanted.NONE),
     Test("linux-warnings", "linux/check-warnings", Place.BY_HAND, "rulesets that nft refuses, by nft (root)",
          Wanted.NONE),
     Test("linux-fit", "tools/fit-ruleset/kernel/compare", Place.BY_HAND, "fitted rulesets beside this kernel (root)",

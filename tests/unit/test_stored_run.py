@@ -8,6 +8,7 @@ from unittest import mock
 
 from support import FilesCase
 from toolbox.commands import Refused
+from toolbox.could_meet import CouldMeet
 from toolbox.hits import Hits
 from toolbox.mapped import MappedRules
 from toolbox.rulemap import Origin, RuleMap
@@ -61,19 +62,24 @@ class Digests(FilesCase):
 
 class Reasons(unittest.TestCase):
     def test_of_the_operators_rules(self) -> None:
-        """A rule that became two, and one that another can't reach."""
-        ruleset = Ruleset("table ip f { chain in { type filter hook input priority 0; accept; drop; drop; } }")
+        """A rule that became two, and one that another can't reach; and of another two one that could be met."""
+        ruleset = Ruleset("table ip f { chain in { type filter hook input priority 0; "
+                          "accept; drop; drop; accept; drop; } }")
         origins = {("ip f in", number): Origin("ip f in", was, "r.nft", was, "text", ())
-                   for number, was in ((1, 1), (2, 2), (3, 2))}
+                   for number, was in ((1, 1), (2, 2), (3, 2), (4, 3), (5, 3))}
         hits = mock.create_autospec(Hits, instance=True)
         hits.number.side_effect = lambda rule: 1 if rule.number == 1 else 0
         hits.decided, hits.logged, hits.counted = {("ip f in", 1): 1}, {}, {}
-        mapped = MappedRules(RuleMap("", "r.nft", origins), ruleset, hits, {
-            ("ip f in", 2): "behind line 1", ("ip f in", 3): "loopback"})
-        with mock.patch("toolbox.mapped.say") as say:
+        hits.is_unmet.side_effect = lambda rule: rule.number != 1
+        known = CouldMeet({("ip f in", 2): "behind line 1", ("ip f in", 3): "loopback", ("ip f in", 4): "taken"},
+                          frozenset({("ip f in", 5)}), "isn't known: too large")
+        mapped = MappedRules(RuleMap("", "r.nft", origins), ruleset, hits, known)
+        with mock.patch("toolbox.mapped.say") as say, mock.patch("toolbox.could_meet.say", say):
             mapped.print_unmet()
         lines = [call.args[0] for call in say.call_args_list if call.args]
         self.assertIn("  r.nft:2: ip f in 2: text  (behind line 1; loopback)", lines)
+        self.assertIn("  r.nft:3: ip f in 3: text  (a packet could meet it)", lines)
+        self.assertIn("  whether a packet could meet them isn't known: too large", lines)
 
 
 if __name__ == "__main__":

@@ -12,16 +12,20 @@ from typing import Iterator, Sequence, Sized
 from linux.differences import CounterDifference, Difference, Kind, counter_differences, kinds_of
 from linux.explain import Explanation, Surroundings, explain
 from linux.history import History
+from linux.hits import counted_copy, hit_lines, hits_of
 from linux.kernel import Replay, set_limits
 from linux.namespaces import Lab, command
 from linux.question import Heard, Options, Question, question_of
 from linux.sections import title
 from linux.seen import Fate, Packet, Said, Told
+from toolbox import program
 from toolbox.captures import IPV4, IPV6, LINK_LENGTHS, PROTOCOL_AT, header_of, records
 from toolbox.commands import Refused, check_files, plural, say
 from toolbox.converted import classic
 from toolbox.packets import describe
+from toolbox.reach import ask
 from toolbox.reports import Decision, RuleCounter
+from toolbox.rulesets import read_ruleset
 
 SAME, DIFFERS, UNEXPLAINED = 0, 1, 3
 NEEDS = {"ip": "iproute2", "nft": "nftables"}
@@ -236,9 +240,16 @@ def beside_linux(options: Options) -> int:
     """Compares, and tells; answers the status."""
     check_files((options.rules, options.box, options.capture))
     check_needs()
-    with classic(options.capture, options.box) as read:
-        question = question_of(replace(options, capture=read))
+    with classic(options.capture, options.box) as read, program.workspace() as folder:
+        asked = replace(options, capture=read)
+        if options.hits:
+            asked = replace(asked, rules=counted_copy(options.rules, folder))
+        question = question_of(asked)
         beside = Beside(question, heard_from_kernel(question))
         for line in lines_of(beside):
             say(line)
+        if options.hits:
+            hits = hits_of(question, beside.heard, read_ruleset(options.rules))
+            for line in hit_lines(hits, ask(program.find_program(), options.rules, options.box)):
+                say(line)
     return beside.status()

@@ -20,7 +20,8 @@ MOST_BYTES = LARGEST_PACKET + 64  # of a record: behind them comes padding alone
 
 @dataclass(frozen=True)
 class Options:
-    """What a command line of beside-linux says: the files, settings of Linux, and how long it may take."""
+    """What a command line of beside-linux says: the files, settings of Linux, how long it may take, and whether hits
+    are compared rule by rule."""
 
     rules: str
     box: str
@@ -30,6 +31,7 @@ class Options:
     records: int = 4000
     seconds: int = 240
     wait: int = 40  # milliseconds
+    hits: bool = False
 
     @classmethod
     def of(cls, words: argparse.Namespace) -> Options:

@@ -81,6 +81,11 @@ def end_of_rule(tokens: list[Token]) -> int | None:
         return None
     if any(word in VERDICTS + TRANSLATIONS for word in statement_words(tokens)):
         return None
+    return end_of_statements(tokens)
+
+
+def end_of_statements(tokens: list[Token]) -> int:
+    """The place behind a rule's last statement, before a comment of its own."""
     if len(tokens) > 2 and tokens[-2].text == "comment" and tokens[-1].kind is Kind.STRING:
         tokens = tokens[:-2]
     return tokens[-1].end

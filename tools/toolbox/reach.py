@@ -14,6 +14,7 @@ from toolbox.program import run_child
 RulePlace = Tuple[str, int]
 SECONDS = 10  # in which rulesets of 16,000 rules are answered
 USAGE, CANT_BE_MET, TOO_LARGE = 2, 8, 9  # statuses of `nftrun reach`
+PREFIX = "nftrun: "  # of its lines on standard error
 
 
 class Meeting(enum.Enum):
@@ -76,7 +77,8 @@ def ask(program: str, rules: str, box: str, seconds: int | None = None) -> Answe
     if status == USAGE:
         return NoAnswer(f"{program} has no `reach` ({first})", was_asked=False)
     if status not in (DONE, CANT_BE_MET):
-        return NoAnswer(f"nftrun reach: {first or f'status {status}'}", is_too_large=status == TOO_LARGE)
+        why = first.removeprefix(PREFIX) or f"status {status}"
+        return NoAnswer(f"nftrun reach: {why}", is_too_large=status == TOO_LARGE)
     try:
         return answers_of(text.removesuffix("\n").split("\n"), status == DONE)
     except ValueError as fault:

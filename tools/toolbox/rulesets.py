@@ -235,6 +235,11 @@ def priority_of(texts: Sequence[str]) -> int:
 
 def statement_words(tokens: list[Token]) -> Iterator[str]:
     """The words and numbers of a rule without names, elements, and words that are values."""
+    return (token.text for token in statement_tokens(tokens))
+
+
+def statement_tokens(tokens: list[Token]) -> Iterator[Token]:
+    """The tokens of these words."""
     texts = [token.text for token in tokens]
     position = 0
     while position < len(texts):
@@ -250,7 +255,7 @@ def statement_words(tokens: list[Token]) -> Iterator[str]:
             position = behind_value(tokens, position + 1)
         else:
             if kind in (Kind.WORD, Kind.NUMBER):
-                yield text
+                yield tokens[position]
             position += 2 if text in ("jump", "goto") else 1
 
 
