@@ -78,7 +78,7 @@ class Reasons(unittest.TestCase):
             mapped.print_unmet()
         lines = [call.args[0] for call in say.call_args_list if call.args]
         self.assertIn("  r.nft:2: ip f in 2: text  (behind line 1; loopback)", lines)
-        self.assertIn("  r.nft:3: ip f in 3: text  (a packet could meet it)", lines)
+        self.assertIn("  r.nft:3: ip f in 3: text  (as fitted, a packet could meet it)", lines)
         self.assertIn("  whether a packet could meet them isn't known: too large", lines)
 
 

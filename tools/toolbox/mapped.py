@@ -5,7 +5,7 @@ from dataclasses import dataclass
 from typing import TYPE_CHECKING, Sequence
 
 from toolbox.commands import Refused, plural, read_bytes, say
-from toolbox.could_meet import COULD
+from toolbox.could_meet import COULD, NEVER
 from toolbox.rulemap import map_of
 
 if TYPE_CHECKING:
@@ -77,11 +77,12 @@ class MappedRules:
 
     def reason(self, old: OldRule) -> str:
         """Why no packet can meet the rule: of each rule that it became, where they differ."""
-        return "; ".join(dict.fromkeys(self.known.never[rule.place] for rule in old.rules))
+        reasons = dict.fromkeys(self.known.never[rule.place] for rule in old.rules)
+        return "; ".join(f"as fitted, {reason}" if reason.startswith(NEVER) else reason for reason in reasons)
 
     def could(self, old: OldRule) -> str:
         """That a packet could meet the rule, if one of those that it became could be met."""
-        return f"  ({COULD})" if any(rule.place in self.known.could for rule in old.rules) else ""
+        return f"  (as fitted, {COULD})" if any(rule.place in self.known.could for rule in old.rules) else ""
 
     def is_unmet(self, old: OldRule) -> bool:
         seen = [rule for rule in old.rules if self.hits.number(rule) is not None]
