@@ -173,12 +173,12 @@ def try_change(browser: Browser, checks: Checks) -> None:
     checks.same("the rule that was removed", [one[2] for one in sides if one[1] == "removed"],
                 ['iifname "lan" ip daddr 198.51.100.25 tcp dport 25 accept'])
     checks.same("the rule that was added", [(one[2], one[4]) for one in sides if one[1] == "added"],
-                [('iifname "lan" tcp dport 8443 accept', "met by no packet")])
+                [('iifname "lan" tcp dport 8443 accept', "met by no packet; a packet could meet it")])
     checks.same("the rule that was moved", {one[2] for one in sides if one[1] == "moved"},
                 {'iifname "lan" icmp type echo-request accept'})
     noted = browser.value("[...document.querySelectorAll('.noted li')].map(one => one.textContent)")
     checks.same("changes that no packet met", noted,
-                ['new: inet filter forward 4  # iifname "lan" tcp dport 8443 accept'])
+                ['new: inet filter forward 4  # iifname "lan" tcp dport 8443 accept (a packet could meet it)'])
 
 
 def try_ways(browser: Browser, checks: Checks) -> None:
