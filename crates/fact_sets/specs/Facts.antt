@@ -13,6 +13,8 @@ use Rattle.rule_meaning.specs.declared.facts.CtFacts.TheVariants as ct
 use Rattle.rule_meaning.specs.declared.facts.CtState.{CtState}
 use Rattle.rule_meaning.specs.declared.facts.CtState.TheVariants as states
 use Rattle.ip_headers.specs.declared.tuple.Direction.TheVariants as directions
+use Rattle.fact_sets.specs.declared.fact_field.FactField.{FactField}
+use Rattle.fact_sets.specs.declared.fact_field.FactField.TheVariants as fields
 use Rattle.fact_sets.specs.declared.written.MarkSource.{MarkSource}
 use Rattle.fact_sets.specs.declared.written.MarkSource.TheVariants as sources
 use Rattle.fact_sets.specs.declared.written.Written.{Written}
@@ -79,6 +81,34 @@ MARK = record { first = 166; width = 32 }
 
 abbrev pub CT_MARK : Field
 CT_MARK = record { first = 198; width = 32 }
+
+-- the place of each field; protocol and transport are one, and so are the two of the output interface
+abbrev pub place_of : FactField → Field
+place_of fields.Protocol = record { first = 0; width = 10 }
+place_of fields.Input = INPUT
+place_of fields.Output = record { first = 16; width = 7 }
+place_of fields.Tracking = TRACKING
+place_of fields.Direction = DIRECTION
+place_of fields.DestinationTranslated = record { first = 27; width = 1 }
+place_of fields.SourceTranslated = record { first = 28; width = 1 }
+place_of fields.ReplySeen = record { first = 29; width = 1 }
+place_of fields.Destination = DESTINATION
+place_of fields.Source = SOURCE
+place_of fields.DestinationPort = DESTINATION_PORT
+place_of fields.SourcePort = SOURCE_PORT
+place_of fields.Cwr = record { first = 126; width = 1 }
+place_of fields.Ecn = record { first = 127; width = 1 }
+place_of fields.Urg = record { first = 128; width = 1 }
+place_of fields.Ack = record { first = 129; width = 1 }
+place_of fields.Psh = record { first = 130; width = 1 }
+place_of fields.Rst = record { first = 131; width = 1 }
+place_of fields.Syn = record { first = 132; width = 1 }
+place_of fields.Fin = record { first = 133; width = 1 }
+place_of fields.IcmpType = ICMP_TYPE
+place_of fields.Length = LENGTH
+place_of fields.Ttl = TTL
+place_of fields.Mark = MARK
+place_of fields.CtMark = CT_MARK
 
 -- the number that a packet's bits write in a field
 abbrev pub number_in : Field → (ℕ → Bool) → ℕ

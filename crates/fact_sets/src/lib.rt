@@ -3,6 +3,7 @@
 
 mod cases;
 mod concatenations;
+mod fact_field;
 mod interfaces;
 mod laws;
 mod layout;
@@ -12,6 +13,7 @@ mod readings;
 mod written;
 
 pub use cases::{Case, Outcome};
+pub use fact_field::FactField;
 pub use interfaces::Interfaces;
 pub use laws::{bits_are_kept, facts_have_bits};
 pub use readings::Reader;

@@ -2,4 +2,5 @@ pub mod Examples
 pub mod FieldLaws
 pub mod Results
 pub mod SetLaws
+pub mod Splits
 pub mod Walks

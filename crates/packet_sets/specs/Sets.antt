@@ -1,9 +1,10 @@
 -- What a set of packets is, and which one a node means. A packet is its bits: for each number whether it has
 -- that bit. A set is a function that tells of each packet whether it is in it. (own; the diagrams are those
 -- of Bryant, Graph-based algorithms for Boolean function manipulation, 1986)
-use Rattle.std.specs.Prelude.{◌≡◌, ℕ, zero, suc, ◌+◌, ◌^◌, ◌<◌, Bool, false, cond, ◌==◌, ◌||◌, List, [], ◌∷◌, length, slice_index_or}
+use Rattle.std.specs.Prelude.{◌≡◌, ◌≢◌, ℕ, zero, suc, ◌+◌, ◌-◌, ◌^◌, ◌<◌, Bool, false, cond, ◌==◌, ◌||◌, List, [], ◌∷◌, length, slice_index_or}
 use Rattle.packet_sets.specs.declared.branch.Branch.{Branch}
 use Rattle.packet_sets.specs.declared.packet_set.PacketSet.{PacketSet}
+use Rattle.packet_sets.specs.declared.split.Split.{Split}
 
 -- what diagrams show to their users: their nodes, and how many there may be
 pub record DiagramsView : Type 0 where
@@ -54,6 +55,15 @@ field_value first (suc width) packet =
 pub record Means (d : DiagramsView) (set : PacketSet) (test : (ℕ → Bool) → Bool) : Type 0 where
   pub is_set : IsSet d set
   pub same : (packet : ℕ → Bool) → holds d set packet ≡ test packet
+
+-- a packet is in the set where it has the bit and is in high, or hasn't it and is in low; these differ
+pub record IsSplit (d : DiagramsView) (set : PacketSet) (split : Split) : Type 0 where
+  pub bit : split.bit < 2 ^ 32 - 1
+  pub low : IsSet d split.low
+  pub high : IsSet d split.high
+  pub differ : split.low ≢ split.high
+  pub same : (packet : ℕ → Bool) → holds d set packet
+      ≡ cond (packet split.bit) (holds d split.high packet) (holds d split.low packet)
 
 -- the packet that has these bits and no others
 unfoldable pub has_bit : List ℕ → ℕ → Bool

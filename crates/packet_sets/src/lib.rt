@@ -14,8 +14,10 @@ mod memo;
 mod nodes;
 mod operation;
 mod packet_set;
+mod split;
 
 pub use diagrams::Diagrams;
 pub use fault::SetError;
 pub use fields::Field;
 pub use packet_set::PacketSet;
+pub use split::Split;

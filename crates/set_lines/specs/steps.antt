@@ -1,0 +1,2 @@
+-- Definitions for private functions: no public contract cites them.
+pub mod Parts
