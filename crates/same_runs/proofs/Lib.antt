@@ -1,2 +1,4 @@
+mod Events
 mod Paths
 mod Records
+mod Captures

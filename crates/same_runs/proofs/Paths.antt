@@ -1,7 +1,7 @@
 -- One packet's path by two rulesets on one box, of which each stage that it comes to does the same.
 use Rattle.std.specs.Prelude.{nat_lt}
 use Rattle.box_file.specs.Box.{is_own, route}
-use Rattle.std.proofs.Common.{◌≡◌, ℕ, Bool, true, false, List, [], Option, Some, None, ap, if◌then◌else◌, refl, subst, sym}
+use Rattle.std.proofs.Common.{◌≡◌, ℕ, Bool, true, false, List, [], Option, Some, None, ap, if◌then◌else◌, refl, subst, sym, ◌∙◌}
 use Rattle.nft_tree.specs.Tree.{TableTree}
 use Rattle.conntrack.specs.declared.connection.ConntrackEntry.{ConntrackEntry}
 use Rattle.ip_headers.specs.declared.tuple.Mapping.{Mapping}
@@ -12,7 +12,7 @@ use Rattle.rule_meaning.specs.declared.event.HookVerdict.{HookVerdict}
 use Rattle.rule_meaning.specs.declared.event.HookVerdict.TheVariants.{Accepted, Dropped}
 use Rattle.rule_meaning.specs.declared.stage.HookStage.{HookStage}
 use Rattle.rule_meaning.specs.declared.stage.HookStage.TheVariants as stages
-use Rattle.rule_meaning.specs.Hooks.{HookResult, Stage}
+use Rattle.rule_meaning.specs.Hooks.{HookResult, Stage, chains_in_stage}
 use Rattle.history.specs.declared.outcome.Cause.{Cause}
 use Rattle.history.specs.declared.outcome.Cause.TheVariants as causes
 use Rattle.history.specs.Setup.{Setup}
@@ -32,6 +32,7 @@ use Rattle.stepping.specs.Confirmations.{Confirm, confirmed, refusal, reply_to, 
 use Rattle.stepping.specs.Next.{AfterLookUp, HooksAndConfirm, LookUp, Path, entry_of_packet, with_info}
 use Rattle.same_runs.specs.Coming as coming
 use Rattle.same_runs.specs.Coming.{IsSeenBy, StandsBefore, stage_behind_routing}
+use Rattle.same_runs.proofs.Events.{chains_blind}
 use Rattle.same_runs.specs.Same.{GoesOn, SameAt, SameResult, with_rules, without_events}
 
 -- ---- steps
@@ -179,10 +180,22 @@ module _ (setup : Setup) (new : List TableTree) where
   abbrev Does : HookStage → Facts → Type 0
   Does = SameAt setup.plant setup.rules new
 
+  -- whatever events are before
+  results_same : (stage : HookStage) (f : Facts) (es later : List Event) → Does stage f → (end other : HookResult)
+      → Stage stage setup.plant setup.rules f es end → Stage stage setup.plant new f later other → SameResult end other
+  results_same stage f es later does end other x y =
+      let a = chains_blind setup.plant setup.rules (chains_in_stage stage) f es [] end x in
+      let b = chains_blind setup.plant new (chains_in_stage stage) f later [] other y in
+      let k : SameResult a.0 b.0 = does a.0 b.0 a.1 b.1 in
+      record {
+        verdict = a.2.0 ∙ k.verdict ∙ sym b.2.0;
+        facts = λ on. a.2.1 ∙ k.facts (subst GoesOn a.2.0 on) ∙ sym b.2.1;
+      }
+
   stage_alike : (stage : HookStage) (s t : PathState) → Does stage s.facts → SameState s t
       → LeadAlike (RunsStage setup stage) (RunsStage after stage) s t
   stage_alike stage s t does same r q x y =
-      let k : SameResult x.end y.end = does s.events t.events x.end y.end x.ran
+      let k : SameResult x.end y.end = results_same stage s.facts s.events t.events does x.end y.end x.ran
       (subst (λ (f : Facts). Stage stage setup.plant new f t.events y.end) (sym same.0) y.ran) in
       subst (SameStep r) (sym y.is) (subst (λ (z : StepResult). SameStep z (unless_dropped y.end.verdict (after_chains y.end t))) (sym x.is)
       (with_verdict_alike x.end.verdict y.end.verdict (after_chains x.end s) (after_chains y.end t) k.verdict k.facts same.1))
@@ -191,7 +204,7 @@ module _ (setup : Setup) (new : List TableTree) where
   nat_same : (stage : HookStage) (info : CtInfo) (f : Facts) (es later : List Event)
       → ((d : NewConnection) → info ≡ New d → Does stage f) → (end other : HookResult)
       → NatChains setup stage info f es end → NatChains after stage info f later other → SameResult end other
-  nat_same stage (New d) f es later does end other x y = does d refl es later end other x y
+  nat_same stage (New d) f es later does end other x y = results_same stage f es later (does d refl) end other x y
   nat_same stage info f es later does end other x y =
       let e : record { verdict = Accepted; facts = f; events = es } ≡ end = sym x in
       let o : record { verdict = Accepted; facts = f; events = later } ≡ other = sym y in

@@ -3,7 +3,6 @@ use Rattle.std.specs.Prelude.{◌≡◌, ℕ, Bool, List, [], length, map}
 use Rattle.nft_tree.specs.Tree.{TableTree}
 use Rattle.box_file.specs.Box.{PlantTree}
 use Rattle.rule_meaning.specs.declared.facts.Facts.{Facts}
-use Rattle.rule_meaning.specs.declared.event.Event.{Event}
 use Rattle.rule_meaning.specs.declared.event.HookVerdict.{HookVerdict}
 use Rattle.rule_meaning.specs.declared.event.HookVerdict.TheVariants.{Dropped}
 use Rattle.rule_meaning.specs.declared.stage.HookStage.{HookStage}
@@ -26,11 +25,11 @@ pub record SameResult (result other : HookResult) : Type 0 where
   pub verdict : result.verdict ≡ other.verdict
   pub facts : GoesOn result.verdict → result.facts ≡ other.facts
 
--- with these facts a packet has the same results in the stage by both rulesets, whatever events are before
+-- with these facts a packet has the same results in the stage by both rulesets
 abbrev pub SameAt : PlantTree → (old new : List TableTree) → HookStage → Facts → Type 0
 SameAt plant old new stage f =
-    (es later : List Event) (result other : HookResult) → Stage stage plant old f es result
-    → Stage stage plant new f later other → SameResult result other
+    (result other : HookResult) → Stage stage plant old f [] result → Stage stage plant new f [] other
+    → SameResult result other
 
 -- the box with another ruleset
 abbrev pub with_rules : List TableTree → Setup → Setup

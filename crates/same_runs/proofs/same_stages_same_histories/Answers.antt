@@ -1,8 +1,17 @@
-use Rattle.std.proofs.Common.{[], refl}
+use Rattle.std.proofs.Common.{◌≡◌, [], ap, refl}
+use Rattle.rule_meaning.specs.Hooks.{HookResult}
 use Rattle.same_runs.specs.Coming as coming
-use Rattle.same_runs.proofs.Records.{histories_same}
+use Rattle.same_runs.proofs.Records.{histories_same, outputs_same}
 use Rattle.same_runs.proofs.same_stages_same_histories.Goals as goal
 
-pub returns : goal.returns
-returns c = λ setup new same records bytes history other.
+pub returns-clause-histories : goal.returns-clause-histories
+returns-clause-histories c = λ setup new same records bytes history other.
     histories_same setup new same records bytes [] [] coming.empty refl history other
+
+pub returns-clause-outputs : goal.returns-clause-outputs
+returns-clause-outputs c = outputs_same
+
+pub returns-clause-itself : goal.returns-clause-itself
+returns-clause-itself c = λ setup stage f comes result other x y.
+    let same : result ≡ other = c.hook_result_unique.ensures.stages stage setup.plant setup.rules f [] result other x y in
+    record { verdict = ap (λ (e : HookResult). e.verdict) same; facts = λ on. ap (λ (e : HookResult). e.facts) same }

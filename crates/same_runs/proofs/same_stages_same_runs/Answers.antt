@@ -1,0 +1,113 @@
+-- Two runs of one capture on one box, from their records.
+use Rattle.std.specs.Prelude.{All}
+use Rattle.std.proofs.Common.{◌≡◌, ◌++◌, ℕ, Bool, List, [], ◌∷◌, Ok, ap, arith, length, refl, subst, sym, ◌∙◌}
+use Rattle.nft_tree.specs.Tree.{TableTree}
+use Rattle.box_file.specs.Box.{IsBox, PlantTree}
+use Rattle.pcap_io.specs.declared.fault.CaptureFault.{CaptureFault}
+use Rattle.pcap_io.specs.declared.format.Format.{Format}
+use Rattle.pcap_io.specs.Pcap.{Captured, Recorded, decoded_records}
+use Rattle.rule_check.specs.WellFormed.{WellFormed}
+use Rattle.history.specs.Setup.{Setup}
+use Rattle.history.specs.History.{Entry, capture_text}
+use Rattle.report.specs.Report.{report_text}
+use Rattle.stepping.specs.Next.{IsHistoryOf, Next}
+use Rattle.engine.specs.AfterFault.{Devices, RecordsTaken}
+use Rattle.engine.specs.Meaning.{Accepted, Meaning, ending_of}
+use Rattle.same_runs.specs.Coming.{AreBytes}
+use Rattle.same_runs.specs.Same.{SameHistories, SameOutputs, SameStages, totals_of, with_rules}
+use Rattle.same_runs.specs.Runs.{SameRuns}
+use Rattle.same_runs.proofs.Captures.{records_of_bytes}
+use Rattle.same_runs.proofs.Records.{histories_same, outputs_same}
+use Rattle.same_runs.specs.Coming as coming
+use Rattle.same_runs.proofs.same_stages_same_runs.Goals as goal
+
+same_sign : (torn other : Bool) → ending_of torn ≡ ending_of other → torn ≡ other
+same_sign torn other same = grind arith
+
+same_ok : (format other : Format) → Ok {E = CaptureFault} format ≡ Ok other → format ≡ other
+same_ok format other same = cc
+
+-- ---- on one box
+
+abbrev OneBox : Type 0
+OneBox = (text : List ℕ) (plant other : PlantTree) → IsBox text plant → IsBox text other → plant ≡ other
+
+same_box : OneBox → {old new box : List ℕ} (a : Accepted old box) (b : Accepted new box)
+    → b.setup ≡ with_rules b.setup.rules a.setup
+same_box one {box = box} a b = λ i. record {
+  rules = b.setup.rules;
+  plant = one box b.setup.plant a.setup.plant b.read a.read i;
+}
+
+same_records : OneBox → {old new box : List ℕ} (a : Accepted old box) (b : Accepted new box) → SameStages a.setup b.setup.rules
+    → (records others : List Recorded) → All (λ r. AreBytes r.bytes) records → records ≡ others → (history other : List Entry)
+    → IsHistoryOf a.setup [] records history → IsHistoryOf b.setup [] others other → SameHistories history other
+same_records one a b same records others bytes alike history other x y =
+    histories_same a.setup b.setup.rules same records bytes [] [] coming.empty refl history other x
+    (subst (λ (s : Setup). IsHistoryOf s [] records other) (same_box one a b)
+    (subst (λ (rs : List Recorded). IsHistoryOf b.setup [] rs other) (sym alike) y))
+
+-- ---- a history exists
+
+abbrev SomeEntry : Type 0
+SomeEntry = (setup : Setup) (history : List Entry) (r : Recorded) → WellFormed setup.rules setup.plant → (e : Entry)
+    × Next setup history r e
+
+some_history : SomeEntry → (setup : Setup) → WellFormed setup.rules setup.plant
+    → (before : List Entry) (rs : List Recorded) → (after : List Entry) × IsHistoryOf setup before rs after
+some_history some setup fine before [] = (before, refl)
+some_history some setup fine before (r ∷ rs) =
+    let e = some setup before r fine in
+    let rest = some_history some setup fine (e.0 ∷ before) rs in
+    (rest.0, (e.0, e.1, rest.1))
+
+-- ---- answers
+
+pub returns-clause-whole : goal.returns-clause-whole
+returns-clause-whole c = λ old new box capture trace other_trace count others torn other_torn sent other_sent report other_report
+    before after bytes same.
+    let reading = c.one_reading.ensures capture before.records after.records (ending_of torn) (ending_of other_torn) before.read
+    after.read in
+    let decoded : decoded_records before.read.format before.records ≡ decoded_records after.read.format after.records =
+    λ i. decoded_records (reading.2 i) (reading.0 i) in
+    let signs : torn ≡ other_torn = same_sign torn other_torn reading.1 in
+    let entries : SameHistories before.history after.history = same_records c.one_box.ensures.one before.accepted after.accepted
+    same _ _ (records_of_bytes capture bytes before.read.format before.records before.read.rest before.read.whole) decoded
+    before.history after.history before.is_history after.is_history in
+    let outputs : SameOutputs before.accepted.setup after.accepted.setup.rules before.history after.history =
+    outputs_same before.accepted.setup after.accepted.setup.rules before.history after.history entries in
+    record {
+      records = before.counted ∙ ap length reading.0 ∙ sym after.counted;
+      ends = signs;
+      captures = before.captured ∙ outputs.captures ∙ sym after.captured;
+      entries = entries;
+      totals = outputs.totals torn
+          ∙ (λ i. totals_of (sym (same_box c.one_box.ensures.one before.accepted after.accepted) i) after.history (signs i));
+    }
+
+pub returns-clause-both : goal.returns-clause-both
+returns-clause-both c = λ old new box capture trace other_trace count torn sent report before accepted.
+    let h = some_history c.one_entry.ensures.some accepted.setup accepted.well_formed []
+    (decoded_records before.read.format before.records) in (
+      capture_text h.0,
+      report_text accepted.setup other_trace h.0 torn,
+      record {
+        accepted = accepted;
+        records = before.records;
+        read = before.read;
+        counted = before.counted;
+        history = h.0;
+        is_history = h.1;
+        captured = refl;
+        reported = refl;
+      },
+    )
+
+pub returns-clause-taken_so_far : goal.returns-clause-taken_so_far
+returns-clause-taken_so_far c = λ old new box capture devices other_devices before after records bytes same.
+    let formats : before.format ≡ after.format = same_ok before.format after.format (sym before.header ∙ after.header) in
+    let decoded : decoded_records before.format before.records ≡ decoded_records after.format after.records =
+    λ i. decoded_records (formats i) (records i) in
+    same_records c.one_box.ensures.one before.accepted after.accepted same _ _
+    (records_of_bytes capture bytes before.format before.records (before.ahead ++ before.left) before.joined) decoded
+    before.history after.history before.is_history after.is_history
