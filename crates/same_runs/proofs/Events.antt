@@ -1,12 +1,11 @@
 -- Chains have the same verdict and facts, whatever events are before.
 use Rattle.std.proofs.Common.{◌≡◌, ◌+◌, ◌++◌, ℕ, Bool, List, [], ◌∷◌, Some, ap, refl, subst, sym}
-use Rattle.nft_tree.specs.Tree.{Statement, TableTree}
+use Rattle.nft_tree.specs.Tree.{TableTree}
 use Rattle.nft_tree.specs.declared.chain.Policy.{Policy}
 use Rattle.box_file.specs.Box.{PlantTree}
 use Rattle.rule_meaning.specs.declared.facts.Facts.{Facts}
 use Rattle.rule_meaning.specs.declared.event.ChainNo.{ChainNo}
 use Rattle.rule_meaning.specs.declared.event.Event.{Event}
-use Rattle.rule_meaning.specs.declared.event.HookVerdict.{HookVerdict}
 use Rattle.rule_meaning.specs.declared.event.HookVerdict.TheVariants.{Accepted, Dropped, Translated}
 use Rattle.rule_meaning.specs.declared.event.RuleVerdict.TheVariants as decisions
 use Rattle.rule_meaning.specs.Statements.{give}

@@ -16,7 +16,6 @@ use Rattle.rule_meaning.specs.Hooks.{HookResult, Stage, chains_in_stage}
 use Rattle.history.specs.declared.outcome.Cause.{Cause}
 use Rattle.history.specs.declared.outcome.Cause.TheVariants as causes
 use Rattle.history.specs.Setup.{Setup}
-use Rattle.history.specs.History.{Entry}
 use Rattle.translation.specs.declared.ct_info.CtInfo.{CtInfo}
 use Rattle.translation.specs.declared.ct_info.CtInfo.TheVariants.{New}
 use Rattle.translation.specs.declared.ct_info.NewConnection.{NewConnection}
@@ -119,26 +118,33 @@ module _ (setup : Setup) (mappings : List Mapping) where
           (ap_both (λ (f : Facts) (i : CtInfo). after_source_nat setup.plant mappings f i v) (facts tt) info)
           (found v (after_source_nat setup.plant mappings s.facts s.info v) (facts tt) tt)
 
-routed_alike : (setup : Setup) (s t : PathState) → SameState s t → SameStep (routed setup s) (routed setup t)
-routed_alike setup s t same = subst (λ (x : PathState). SameStep (routed setup x) (routed setup t)) (sym is)
-    (by_owner (is_own setup.plant t.facts.packet.destination) (route setup.plant t.facts.packet.destination))
-  where
-    is : s ≡ record { facts = t.facts; info = t.info; events = s.events }
-    is = λ i. record { facts = same.0 i; info = same.1 i; events = s.events }
+-- the state with these events
+abbrev with_events : List Event → PathState → PathState
+with_events es t = record t { events = es }
 
-    by_ttl : (spent : Bool) (u v : PathState) → SameState u v → SameStep (if spent then Drop causes.Ttl (record { facts = t.facts; info = t.info; events = s.events }) else Continue u)
-        (if spent then Drop causes.Ttl t else Continue v)
+routed_so : (setup : Setup) (es : List Event) (t : PathState) → SameStep (routed setup (with_events es t)) (routed setup t)
+routed_so setup es t =
+    by_owner (is_own setup.plant t.facts.packet.destination) (route setup.plant t.facts.packet.destination)
+  where
+    by_ttl : (spent : Bool) (u v : PathState) → SameState u v
+        → SameStep (if spent then Drop causes.Ttl (with_events es t) else Continue u) (if spent then Drop causes.Ttl t else Continue v)
     by_ttl true u v like = (refl, refl)
     by_ttl false u v like = like
 
-    by_route : (way : Option ℕ) → SameStep (forwarded_by setup way (record { facts = t.facts; info = t.info; events = s.events })) (forwarded_by setup way t)
+    by_route : (way : Option ℕ) → SameStep (forwarded_by setup way (with_events es t)) (forwarded_by setup way t)
     by_route None = (refl, refl)
     by_route (Some interface) = by_ttl (nat_lt t.facts.packet.ttl 2) _ _ (refl, refl)
 
-    by_owner : (own : Bool) (way : Option ℕ) → SameStep (if own then Continue (record { facts = t.facts; info = t.info; events = s.events }) else forwarded_by setup way (record { facts = t.facts; info = t.info; events = s.events }))
+    by_owner : (own : Bool) (way : Option ℕ)
+        → SameStep (if own then Continue (with_events es t) else forwarded_by setup way (with_events es t))
         (if own then Continue t else forwarded_by setup way t)
     by_owner true way = (refl, refl)
     by_owner false way = by_route way
+
+routed_alike : (setup : Setup) (s t : PathState) → SameState s t → SameStep (routed setup s) (routed setup t)
+routed_alike setup s t same =
+    let is : s ≡ with_events s.events t = λ i. record { facts = same.0 i; info = same.1 i; events = s.events } in
+    subst (λ (x : PathState). SameStep (routed setup x) (routed setup t)) (sym is) (routed_so setup s.events t)
 
 confirmed_alike : (others : List ConntrackEntry) (s t : PathState) → SameState s t
     → SameStep (confirmed others s.info s) (confirmed others t.info t)
@@ -243,7 +249,7 @@ module _ (setup : Setup) (new : List TableTree) where
   -- of a packet among these live connections
   module _ (live : List ConntrackEntry) (a : ReceivedPacket)
       (does : (stage : HookStage) (others : List ConntrackEntry) (s : PathState) → StandsBefore setup live a stage others s
-          → IsSeenBy stage s.info → Does stage s.facts)
+      → IsSeenBy stage s.info → Does stage s.facts)
     where
       seen_new : (stage : HookStage) (others : List ConntrackEntry) (s : PathState) → StandsBefore setup live a stage others s
           → ((d : NewConnection) → IsSeenBy stage (New d)) → (d : NewConnection) → s.info ≡ New d → Does stage s.facts

@@ -1,5 +1,5 @@
 -- Two rulesets on one box, of which each stage does the same: record by record, their histories are the same but for events.
-use Rattle.std.specs.Prelude.{All, fold, max}
+use Rattle.std.specs.Prelude.{All, max}
 use Rattle.std.specs.List.{count_by, flat_map}
 use Rattle.std.proofs.Common.{◌≡◌, ◌++◌, ℕ, ◌+◌, Bool, List, [], ◌∷◌, length, map, cond, Result, Ok, Err, ap, refl, subst, sym, ◌∙◌}
 use Rattle.std.proofs.lemmas.List.{length-map}
@@ -16,14 +16,14 @@ use Rattle.rule_meaning.specs.declared.stage.HookStage.{HookStage}
 use Rattle.history.specs.declared.outcome.Cause.{Cause}
 use Rattle.history.specs.Outcomes.{is_dropped_for, is_local, is_passed}
 use Rattle.history.specs.Setup.{Setup, limits_of}
-use Rattle.history.specs.History.{Entry, capture_text, in_order, sends, tracked_of}
-use Rattle.report.specs.Report.{connections_begun, dropped, local, number_lines, passed}
+use Rattle.history.specs.History.{Entry, in_order, sends, tracked_of}
+use Rattle.report.specs.Report.{number_lines}
 use Rattle.stepping.specs.Carried.{ReceivedPacket, carried}
 use Rattle.stepping.specs.Next.{EntryOf, IsHistoryOf, Next, live_at_record, moment_after}
 use Rattle.stepping.specs.Paths.{PathState}
 use Rattle.same_runs.specs.Coming as coming
 use Rattle.same_runs.specs.Coming.{AreBytes, HistoryOfBytes, IsSeenBy, StandsBefore}
-use Rattle.same_runs.specs.Same.{SameAt, SameHistories, SameOutputs, SameStages, totals_of, with_rules, without_events}
+use Rattle.same_runs.specs.Same.{SameAt, SameHistories, SameOutputs, SameStages, with_rules, without_events}
 use Rattle.same_runs.proofs.Paths.{entry_alike, path_leads}
 
 -- ---- what reads no events

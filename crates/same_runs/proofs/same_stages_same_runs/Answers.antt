@@ -1,21 +1,18 @@
 -- Two runs of one capture on one box, from their records.
 use Rattle.std.specs.Prelude.{All}
-use Rattle.std.proofs.Common.{◌≡◌, ◌++◌, ℕ, Bool, List, [], ◌∷◌, Ok, ap, arith, length, refl, subst, sym, ◌∙◌}
-use Rattle.nft_tree.specs.Tree.{TableTree}
+use Rattle.std.proofs.Common.{◌≡◌, ◌++◌, ℕ, Bool, List, [], ◌∷◌, Ok, Result, ap, arith, length, refl, subst, sym, ◌∙◌}
 use Rattle.box_file.specs.Box.{IsBox, PlantTree}
 use Rattle.pcap_io.specs.declared.fault.CaptureFault.{CaptureFault}
 use Rattle.pcap_io.specs.declared.format.Format.{Format}
-use Rattle.pcap_io.specs.Pcap.{Captured, Recorded, decoded_records}
+use Rattle.pcap_io.specs.Pcap.{Recorded, decoded_records, format_of}
 use Rattle.rule_check.specs.WellFormed.{WellFormed}
 use Rattle.history.specs.Setup.{Setup}
 use Rattle.history.specs.History.{Entry, capture_text}
 use Rattle.report.specs.Report.{report_text}
 use Rattle.stepping.specs.Next.{IsHistoryOf, Next}
-use Rattle.engine.specs.AfterFault.{Devices, RecordsTaken}
-use Rattle.engine.specs.Meaning.{Accepted, Meaning, ending_of}
+use Rattle.engine.specs.Meaning.{Accepted, ending_of}
 use Rattle.same_runs.specs.Coming.{AreBytes}
 use Rattle.same_runs.specs.Same.{SameHistories, SameOutputs, SameStages, totals_of, with_rules}
-use Rattle.same_runs.specs.Runs.{SameRuns}
 use Rattle.same_runs.proofs.Captures.{records_of_bytes}
 use Rattle.same_runs.proofs.Records.{histories_same, outputs_same}
 use Rattle.same_runs.specs.Coming as coming
@@ -24,8 +21,8 @@ use Rattle.same_runs.proofs.same_stages_same_runs.Goals as goal
 same_sign : (torn other : Bool) → ending_of torn ≡ ending_of other → torn ≡ other
 same_sign torn other same = grind arith
 
-same_ok : (format other : Format) → Ok {E = CaptureFault} format ≡ Ok other → format ≡ other
-same_ok format other same = cc
+same_ok : (result : Result Format CaptureFault) (format other : Format) → result ≡ Ok format → result ≡ Ok other → format ≡ other
+same_ok result format other is so = cc
 
 -- ---- on one box
 
@@ -105,7 +102,8 @@ returns-clause-both c = λ old new box capture trace other_trace count torn sent
 
 pub returns-clause-taken_so_far : goal.returns-clause-taken_so_far
 returns-clause-taken_so_far c = λ old new box capture devices other_devices before after records bytes same.
-    let formats : before.format ≡ after.format = same_ok before.format after.format (sym before.header ∙ after.header) in
+    let formats : before.format ≡ after.format =
+    same_ok (format_of capture) before.format after.format before.header after.header in
     let decoded : decoded_records before.format before.records ≡ decoded_records after.format after.records =
     λ i. decoded_records (formats i) (records i) in
     same_records c.one_box.ensures.one before.accepted after.accepted same _ _
