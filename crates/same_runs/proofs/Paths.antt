@@ -24,8 +24,9 @@ use Rattle.translation.specs.Nat.{after_destination_nat, after_source_nat}
 use Rattle.translation.specs.LiveMappings.{mappings_in}
 use Rattle.stepping.specs.Carried.{ReceivedPacket, interface_facts}
 use Rattle.stepping.specs.Lookups.{looked_up_info, others_beside}
-use Rattle.stepping.specs.Paths.{AfterRouting, PathState, Step, StepResult, Continue, Drop, DestinationNat, Hooks, InputOrForward, NatChains, Prerouting, Routing}
-use Rattle.stepping.specs.Paths.{RunsStage, SourceNat, after_chains, destination_nat_result, forwarded_by, goes_on, on_arrival, routed, source_nat_result, stops}
+use Rattle.stepping.specs.Paths.{AfterRouting, Continue, DestinationNat, Drop, Hooks, InputOrForward, NatChains, PathState}
+use Rattle.stepping.specs.Paths.{Prerouting, Routing, RunsStage, SourceNat, Step, StepResult, after_chains, destination_nat_result}
+use Rattle.stepping.specs.Paths.{forwarded_by, goes_on, on_arrival, routed, source_nat_result, stops}
 use Rattle.stepping.specs.Paths.{unless_dropped, ◌⨾◌}
 use Rattle.stepping.specs.Confirmations.{Confirm, confirmed, refusal, reply_to, unless_refused}
 use Rattle.stepping.specs.Next.{AfterLookUp, HooksAndConfirm, LookUp, Path, entry_of_packet, with_info}

@@ -5,15 +5,16 @@
 
 ghost use Rattle.std.specs.Prelude.{◌≡◌, All, Bool, List, [], ℕ};
 ghost use Rattle.nft_tree.specs.Tree.{TableTree};
+ghost use Rattle.pcap_io.specs.declared.fault.CaptureFault.{CaptureFault};
 ghost use Rattle.pcap_io.specs.Pcap.{Recorded};
 ghost use Rattle.history.specs.Setup.{Setup};
 ghost use Rattle.history.specs.History.{Entry};
 ghost use Rattle.stepping.specs.Next.{IsHistoryOf};
-ghost use Rattle.engine.specs.AfterFault.{Devices, RecordsTaken};
+ghost use Rattle.engine.specs.AfterFault.{Devices, RecordRefused, RecordsTaken};
 ghost use Rattle.engine.specs.Meaning.{Accepted, Meaning};
 ghost use Rattle.same_runs.specs.Coming.{AreBytes};
 ghost use Rattle.same_runs.specs.Same.{SameHistories, SameOutputs, SameStages, with_rules};
-ghost use Rattle.same_runs.specs.Runs.{SameRuns};
+ghost use Rattle.same_runs.specs.Runs.{SameRefusals, SameRuns};
 
 use box_file::one_box;
 use pcap_io::one_reading;
@@ -49,7 +50,14 @@ pub fn same_stages_same_runs()
         → Meaning old box capture trace count torn sent report → Accepted new box
         → (other_sent : List ℕ) × (other_report : List ℕ)
         × Meaning new box capture other_trace count torn other_sent other_report }
-    // The same of the records before a fault, where two runs took equally many.
+    // A capture that is refused within its records is so by both.
+    ensures refused { (old new box capture : List ℕ) (trace other_trace : Bool)
+        (fault other_fault : CaptureFault) (left left_now other_left other_left_now : Devices)
+        → (before : RecordRefused old box capture trace fault left left_now)
+        → (after : RecordRefused new box capture other_trace other_fault other_left other_left_now)
+        → AreBytes capture → SameStages before.taken_so_far.accepted.setup
+        after.taken_so_far.accepted.setup.rules → SameRefusals before after }
+    // The same of the records before any other fault, where two runs took equally many.
     ensures taken_so_far { (old new box capture : List ℕ) (devices other_devices : Devices)
         → (before : RecordsTaken old box capture devices)
         → (after : RecordsTaken new box capture other_devices) → before.records ≡ after.records

@@ -1,15 +1,18 @@
 -- Two runs of one capture on one box, from their records.
 use Rattle.std.specs.Prelude.{All}
 use Rattle.std.proofs.Common.{◌≡◌, ◌++◌, ℕ, Bool, List, [], ◌∷◌, Ok, Result, ap, arith, length, refl, subst, sym, ◌∙◌}
+use Rattle.std.proofs.lemmas.Option.{same_Some}
 use Rattle.box_file.specs.Box.{IsBox, PlantTree}
 use Rattle.pcap_io.specs.declared.fault.CaptureFault.{CaptureFault}
 use Rattle.pcap_io.specs.declared.format.Format.{Format}
-use Rattle.pcap_io.specs.Pcap.{Recorded, decoded_records, format_of}
+use Rattle.pcap_io.specs.Pcap.{Pcap, Recorded, decoded_records, format_of}
 use Rattle.rule_check.specs.WellFormed.{WellFormed}
 use Rattle.history.specs.Setup.{Setup}
 use Rattle.history.specs.History.{Entry, capture_text}
 use Rattle.report.specs.Report.{report_text}
 use Rattle.stepping.specs.Next.{IsHistoryOf, Next}
+use Rattle.engine.specs.AfterFault.{Devices, RecordRefused}
+use Rattle.engine.specs.Refusals.{fault_at}
 use Rattle.engine.specs.Meaning.{Accepted, ending_of}
 use Rattle.same_runs.specs.Coming.{AreBytes}
 use Rattle.same_runs.specs.Same.{SameHistories, SameOutputs, SameStages, totals_of, with_rules}
@@ -99,6 +102,37 @@ returns-clause-both c = λ old new box capture trace other_trace count torn sent
         reported = refl;
       },
     )
+
+-- the records before a fault, as a reading of the whole capture
+abbrev read_by : {rules box capture : List ℕ} {trace : Bool} {fault : CaptureFault} {left left_now : Devices}
+    (refused : RecordRefused rules box capture trace fault left left_now)
+    → Pcap capture refused.taken_so_far.records refused.ending
+read_by refused = record {
+  format = refused.taken_so_far.format;
+  accepted = refused.taken_so_far.header;
+  rest = refused.taken_so_far.ahead ++ refused.taken_so_far.left;
+  whole = refused.taken_so_far.joined;
+  each = refused.taken_so_far.each;
+  not_over = refused.taken_so_far.not_over;
+  ends = refused.ends;
+}
+
+pub returns-clause-refused : goal.returns-clause-refused
+returns-clause-refused c = λ old new box capture trace other_trace fault other_fault left left_now other_left other_left_now
+    before after bytes same.
+    let a = before.taken_so_far in
+    let b = after.taken_so_far in
+    let reading = c.one_reading.ensures capture a.records b.records before.ending after.ending (read_by before) (read_by after) in
+    let decoded : decoded_records a.format a.records ≡ decoded_records b.format b.records =
+    λ i. decoded_records (reading.2 i) (reading.0 i) in
+    let entries : SameHistories a.history b.history = same_records c.one_box.ensures.one a.accepted b.accepted same _ _
+    (records_of_bytes capture bytes a.format a.records (a.ahead ++ a.left) a.joined) decoded a.history b.history a.is_history
+    b.is_history in
+    record {
+      faults = same_Some fault other_fault (sym before.refused ∙ ap fault_at reading.1 ∙ after.refused);
+      captures = (outputs_same a.accepted.setup b.accepted.setup.rules a.history b.history entries).captures;
+      entries = entries;
+    }
 
 pub returns-clause-taken_so_far : goal.returns-clause-taken_so_far
 returns-clause-taken_so_far c = λ old new box capture devices other_devices before after records bytes same.
