@@ -79,12 +79,14 @@ lines_more d set field ways i way ranges old more new here at are same olds more
     λ f. ways-step ways i way (number_in field f) here at in
     record {
       most = λ f.
-          let add = adds-most (H f) (holds d way.rest f) (lie f) (passed old.lines.items f) (passed more.lines.items f) (ways_with (take i ways) (number_in field f)) (is.same f) (olds.most f) (mores.most f) in
+          let add = adds-most (H f) (holds d way.rest f) (lie f) (passed old.lines.items f) (passed more.lines.items f)
+          (ways_with (take i ways) (number_in field f)) (is.same f) (olds.most f) (mores.most f) in
           subst (λ k. passed new.lines.items f ≤ cond (H f) k 0) (sym (step f))
           (subst (λ k. k ≤ cond (H f) (ways_with (take i ways) (number_in field f) + cond (lie f) 1 0) 0) (sym (sum f)) add);
       whole = λ m f.
           let z = counts m in
-          let add = adds-whole (H f) (holds d way.rest f) (lie f) (passed old.lines.items f) (passed more.lines.items f) (ways_with (take i ways) (number_in field f)) (is.same f) (olds.whole z.0 f) (mores.whole z.1 f) in
+          let add = adds-whole (H f) (holds d way.rest f) (lie f) (passed old.lines.items f) (passed more.lines.items f)
+          (ways_with (take i ways) (number_in field f)) (is.same f) (olds.whole z.0 f) (mores.whole z.1 f) in
           sum f ∙ add ∙ ap (λ k. cond (H f) k 0) (sym (step f));
     }
 

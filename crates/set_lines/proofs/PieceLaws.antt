@@ -125,7 +125,8 @@ low-piece d set field halves start piece are is =
     }
 
 high-piece : (d : DiagramsView) (set : PacketSet) (field : Field) (halves : Halves) (start : ℕ) (piece : Piece) → AreHalves d set field halves
-    → IsPiece d halves.high (record { first = field.first + 1; width = field.width - 1 }) (start + 2 ^ (field.width - 1)) piece → IsPiece d set field start piece
+    → IsPiece d halves.high (record { first = field.first + 1; width = field.width - 1 }) (start + 2 ^ (field.width - 1)) piece
+    → IsPiece d set field start piece
 high-piece d set field halves start piece are is =
     let two = two_halves field.width are.wide in
     let a = is.above in
@@ -159,8 +160,10 @@ both_pieces d set field halves start middle low high all are m lows highs joined
     let behind : Field = record { first = field.first + 1; width = field.width - 1 } in
     let half = 2 ^ (field.width - 1) in
     let uppers : ArePieces d halves.high behind (start + half) high = subst (λ n. ArePieces d halves.high behind n high) m highs in
-    let lower = All-weaker (IsPiece d halves.low behind start) (IsPiece d set field start) (λ piece is. low-piece d set field halves start piece are is) low lows.each in
-    let upper = All-weaker (IsPiece d halves.high behind (start + half)) (IsPiece d set field start) (λ piece is. high-piece d set field halves start piece are is) high
+    let lower = All-weaker (IsPiece d halves.low behind start) (IsPiece d set field start)
+    (λ piece is. low-piece d set field halves start piece are is) low lows.each in
+    let upper = All-weaker (IsPiece d halves.high behind (start + half)) (IsPiece d set field start)
+    (λ piece is. high-piece d set field halves start piece are is) high
     uppers.each in
     let go : (f : ℕ → Bool) (bit : Bool) → f field.first ≡ bit → pieces_with (low ++ high) (start + number_in field f) ≡ 1 =
     λ f bit. elim bit as (λ v. f field.first ≡ v → pieces_with (low ++ high) (start + number_in field f) ≡ 1) [
@@ -168,13 +171,15 @@ both_pieces d set field halves start middle low high all are m lows highs joined
           let n : start + number_in field f ≡ start + half + number_in behind f = omega (arith, number-high field f are.wide e) in
           let none = none-behind d halves.low behind start (start + number_in field f) low lows.each (omega arith) in
           let one = subst (λ n. pieces_with high n ≡ 1) (sym n) (uppers.once f) in
-          sum_by-append (λ (piece : Piece). cond (lies piece.numbers (start + number_in field f)) 1 0) low high ∙ ap (λ x. x + pieces_with high (start + number_in field f)) none ∙ omega (arith, one)
+          sum_by-append (λ (piece : Piece). cond (lies piece.numbers (start + number_in field f)) 1 0) low high
+          ∙ ap (λ x. x + pieces_with high (start + number_in field f)) none ∙ omega (arith, one)
       | false ↦ λ e.
           let n : start + number_in field f ≡ start + number_in behind f = omega (arith, number-low field f are.wide e) in
           let less = value_less (field.width - 1) (field.first + 1) f in
           let none = none-before d halves.high behind (start + half) (start + number_in field f) high uppers.each (omega arith) in
           let one = subst (λ n. pieces_with low n ≡ 1) (sym n) (lows.once f) in
-          sum_by-append (λ (piece : Piece). cond (lies piece.numbers (start + number_in field f)) 1 0) low high ∙ ap (λ x. pieces_with low (start + number_in field f) + x) none ∙ omega (arith, one)
+          sum_by-append (λ (piece : Piece). cond (lies piece.numbers (start + number_in field f)) 1 0) low high
+          ∙ ap (λ x. pieces_with low (start + number_in field f) + x) none ∙ omega (arith, one)
     ] in
     subst (λ xs. ArePieces d set field start xs) (sym joined) (record {
       each = All-append (IsPiece d set field start) low high lower upper;

@@ -54,7 +54,8 @@ pub in_joined : (old now items : List Numbers) (last x both : Numbers) → old �
     → both.low ≡ last.low → both.high ≡ x.high → (n : ℕ) → lies_in items n ≡ (lies_in old n || lies x n)
 in_joined old now items last x both was e touch low high n =
     ap (λ xs. lies_in xs n) e ∙ in-push now both n ∙ ap (λ v. lies_in now n || v) (touching last x both n touch low high)
-    ∙ sym (or-assoc (lies_in now n) (lies last n) (lies x n)) ∙ ap (λ v. v || lies x n) (sym (in-push now last n)) ∙ ap (λ xs. lies_in xs n || lies x n) (sym was)
+    ∙ sym (or-assoc (lies_in now n) (lies last n) (lies x n)) ∙ ap (λ v. v || lies x n) (sym (in-push now last n))
+    ∙ ap (λ xs. lies_in xs n || lies x n) (sym was)
 
 -- ---- a way more
 

@@ -18,7 +18,8 @@ loop-line-preserved c = record {
       let l = c.in_ok-push.ensures.len in
       omega (arith, length_push c.loop-line.yielded c.in-Some.line);
   lines = λ f.
-      passed_under (lies_in c.args.ranges.now (number_in c.args.field f)) c.loop-line.self.lines.items c.loop-line.yielded c.push.new.self.items _ c.in-Some.line
+      passed_under (lies_in c.args.ranges.now (number_in c.args.field f)) c.loop-line.self.lines.items
+      c.loop-line.yielded c.push.new.self.items _ c.in-Some.line
       c.in_ok-under.field-0 f c.in_ok-push.ensures.items (c.loop-line.invariant.lines f) (c.in_ok-under.ensures f);
   more = c.loop-line.invariant.more;
 }

@@ -1,0 +1,73 @@
+//! A line as matches.
+
+use crate::writer::Writer;
+use box_file::Plant;
+use fact_sets::FactField;
+use packet_sets::Field;
+use set_lines::Line;
+use std::alloc::{AllocError, Global};
+
+/// The fields with a match before that of TCP's flags, in the order of their matches.
+static FIRST: [FactField; 12] = [
+    FactField::Input,
+    FactField::Output,
+    FactField::Tracking,
+    FactField::Direction,
+    FactField::ReplySeen,
+    FactField::SourceTranslated,
+    FactField::DestinationTranslated,
+    FactField::Source,
+    FactField::Destination,
+    FactField::Protocol,
+    FactField::SourcePort,
+    FactField::DestinationPort,
+];
+
+/// Those with one behind it.
+static LAST: [FactField; 5] = [
+    FactField::IcmpType,
+    FactField::Length,
+    FactField::Ttl,
+    FactField::Mark,
+    FactField::CtMark,
+];
+
+/// The fields by which a line tells packets, in the order of their bits.
+///
+/// # Errors
+///
+/// If an allocation fails.
+pub fn line_fields(alloc: Global) -> Result<Vec<Field>, AllocError> {
+    let mut fields = Vec::new(alloc);
+    for field in &FactField::ALL {
+        fields.push(field.place())?;
+    }
+    Ok(fields)
+}
+
+/// Appends the matches of a line by those fields, on this box, as they stand in a rule: of the
+/// packets that can come to a chain they are to take those of the line. It is `any packet` where the
+/// line has none.
+///
+/// # Errors
+///
+/// If an allocation fails.
+pub fn put_line(
+    text: &mut Vec<u8>,
+    alloc: Global,
+    line: &Line,
+    plant: &Plant,
+) -> Result<(), AllocError> {
+    let mut matches = Writer::new(alloc, line, plant)?;
+    for field in &FIRST {
+        matches.put(*field)?;
+    }
+    matches.put_flags()?;
+    for field in &LAST {
+        matches.put(*field)?;
+    }
+    if matches.text.is_empty() {
+        return text.extend_from_slice(b"any packet");
+    }
+    text.extend_from_slice(&matches.text)
+}
