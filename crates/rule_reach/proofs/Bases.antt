@@ -1,55 +1,63 @@
--- What is told after some base chains of a list of them, and the rules and base chains that are left.
-use Rattle.std.proofs.Common.{◌≡◌, ◌∙◌, ℕ, ◌+◌, List, [], ◌∷◌, ◌++◌, drop, slice_get, Some, filter, map, refl, ap, subst, append-nil, append_assoc}
+-- The sets of some base chains of a list of them, and the rules and base chains that are left.
+use Rattle.std.proofs.Common.{◌≡◌, ◌∙◌, ℕ, ◌+◌, List, [], ◌∷◌, ◌++◌, drop, take, slice_get, Some, filter, map, refl, ap, subst, append-nil, append_assoc}
 use Rattle.std.proofs.Common.{add-one, sym, suc}
 use Rattle.std.proofs.Common.{arith, zero, Bool, false}
-use Rattle.std.specs.List.{list_any}
-use Rattle.std.proofs.lemmas.Bool.{or_parts}
-use Rattle.std.proofs.lemmas.List.{drop_more}
+use Rattle.std.specs.List.{AllZip, list_any}
+use Rattle.std.proofs.lemmas.Bool.{false_from_ne_true, or_parts}
+use Rattle.std.proofs.lemmas.List.{drop_more, take_more}
 use Rattle.std.proofs.lemmas.List.Elements.{All-map, All-nil, All-same, filter-append}
 use Rattle.std.proofs.lemmas.Option.{get_or_from_slice_get, slice_get_within}
 use Rattle.nft_tree.specs.declared.ruleset.RuleNo.{RuleNo}
 use Rattle.nft_tree.specs.Tree.{ChainTree, TableTree}
 use Rattle.nft_tree.specs.TableItems.{chains_of}
 use Rattle.box_file.specs.Box.{PlantTree}
+use Rattle.packet_sets.specs.Sets.{DiagramsView}
+use Rattle.rule_types.specs.Types.{table_mismatches}
+use Rattle.rule_values.specs.Faults.{has_wrong_value, item_out_of_range}
+use Rattle.rule_check.specs.declared.fault.CheckFault.TheVariants as faults
+use Rattle.rule_check.specs.WellFormed.{WellFormed}
 use Rattle.rule_meaning.specs.Hooks.{BaseChain, base_chain_of, base_chains_from, base_chains_of_tables}
 use Rattle.rule_reach.specs.declared.answers.Reach.{Reach}
 use Rattle.rule_reach.specs.declared.answers.RuleReach.{RuleReach}
-use Rattle.rule_reach.specs.Reach.{IsAnswer, IsPolicyReach, rules_of, runs}
+use Rattle.rule_reach.specs.declared.sets.BaseSets.{BaseSets}
+use Rattle.rule_reach.specs.Sets.{AreSetsOf}
+use Rattle.coming_sets.specs.Bases.{runs}
+use Rattle.rule_reach.specs.Reach.{IsAnswer, IsPolicyReach, rules_of}
 use Rattle.rule_reach.specs.steps.Rules.{IsReach, unreached}
 
 -- the first of those that are left at a place of a list
 pub rest_from : {A : Type 0} (xs : List A) (i : ℕ) (x : A) → slice_get xs i ≡ Some x → drop i xs ≡ x ∷ drop (i + 1) xs
 rest_from xs i x is = drop_more xs i x (slice_get_within xs i x is) ∙ ap (λ y. y ∷ drop (i + 1) xs) (get_or_from_slice_get xs i x x is)
 
--- it is told of all of them but those that are left
-pub record Done (plant : PlantTree) (tables : List TableTree) (bases all left : List BaseChain) (reach : Reach) : Type 0 where
+-- there are sets of all of them but those that are left
+pub record Done (plant : PlantTree) (tables : List TableTree) (d : DiagramsView) (before all left : List BaseChain) (sets : List BaseSets) : Type 0 where
   pub done : List BaseChain
   pub is : done ++ left ≡ all
-  pub told : IsReach plant tables (bases ++ done) reach
+  pub made : AreSetsOf plant tables d (before ++ done) sets
 
-pub done_none : (plant : PlantTree) (tables : List TableTree) (bases all : List BaseChain) (reach : Reach) → IsReach plant tables bases reach
-    → Done plant tables bases all all reach
-done_none plant tables bases all reach is = record {
+pub done_none : (plant : PlantTree) (tables : List TableTree) (d : DiagramsView) (before all : List BaseChain) (sets : List BaseSets)
+    → AreSetsOf plant tables d before sets → Done plant tables d before all all sets
+done_none plant tables d before all sets is = record {
   done = [];
   is = refl;
-  told = subst (λ l. IsReach plant tables l reach) (sym (append-nil bases)) is;
+  made = subst (λ l. AreSetsOf plant tables d l sets) (sym (append-nil before)) is;
 }
 
-pub done_more : (plant : PlantTree) (tables : List TableTree) (bases all left more next : List BaseChain) (reach new : Reach)
-    → left ≡ more ++ next
-    → ((so_far : List BaseChain) → IsReach plant tables so_far reach → IsReach plant tables (so_far ++ more) new)
-    → Done plant tables bases all left reach → Done plant tables bases all next new
-done_more plant tables bases all left more next reach new e step d = record {
-  done = d.done ++ more;
-  is = append_assoc d.done more next ∙ ap (λ l. d.done ++ l) (sym e) ∙ d.is;
-  told = subst (λ l. IsReach plant tables l new) (append_assoc bases d.done more) (step (bases ++ d.done) d.told);
+pub done_more : (plant : PlantTree) (tables : List TableTree) (d e : DiagramsView) (before all left more next : List BaseChain)
+    (sets new : List BaseSets) → left ≡ more ++ next
+    → ((so_far : List BaseChain) → AreSetsOf plant tables d so_far sets → AreSetsOf plant tables e (so_far ++ more) new)
+    → Done plant tables d before all left sets → Done plant tables e before all next new
+done_more plant tables d e before all left more next sets new is step had = record {
+  done = had.done ++ more;
+  is = append_assoc had.done more next ∙ ap (λ l. had.done ++ l) (sym is) ∙ had.is;
+  made = subst (λ l. AreSetsOf plant tables e l new) (append_assoc before had.done more) (step (before ++ had.done) had.made);
 }
 
-pub done_all : (plant : PlantTree) (tables : List TableTree) (bases all left : List BaseChain) (reach : Reach) → left ≡ []
-    → Done plant tables bases all left reach → IsReach plant tables (bases ++ all) reach
-done_all plant tables bases all left reach none d =
-    let e = sym (append-nil d.done) ∙ ap (λ l. d.done ++ l) (sym none) ∙ d.is in
-    subst (λ l. IsReach plant tables (bases ++ l) reach) e d.told
+pub done_all : (plant : PlantTree) (tables : List TableTree) (d : DiagramsView) (before all left : List BaseChain) (sets : List BaseSets) → left ≡ []
+    → Done plant tables d before all left sets → AreSetsOf plant tables d (before ++ all) sets
+done_all plant tables d before all left sets none had =
+    let e = sym (append-nil had.done) ∙ ap (λ l. had.done ++ l) (sym none) ∙ had.is in
+    subst (λ l. AreSetsOf plant tables d (before ++ l) sets) e had.made
 
 -- ---- no base chain yet
 
@@ -74,6 +82,29 @@ pub none_at : {A : Type 0} (p : A → Bool) (xs : List A) (i : ℕ) (x : A) → 
 none_at p [] i x none is = cc
 none_at p (y ∷ ys) zero x none is = let e : y ≡ x = cc in ap p (sym e) ∙ (or_parts (p y) (list_any p ys) none).0
 none_at p (y ∷ ys) (suc i) x none is = none_at p ys i x (or_parts (p y) (list_any p ys) none).1 is
+
+-- what a table of a well-formed ruleset hasn't
+pub types_at : (plant : PlantTree) (tables : List TableTree) (i : ℕ) (t : TableTree) → WellFormed tables plant → slice_get tables i ≡ Some t
+    → table_mismatches t ≡ false
+types_at plant tables i t fine at = none_at table_mismatches tables i t (false_from_ne_true _ (fine faults.TypeMismatch)) at
+
+pub bounds_at : (plant : PlantTree) (tables : List TableTree) (i : ℕ) (t : TableTree) → WellFormed tables plant → slice_get tables i ≡ Some t
+    → list_any item_out_of_range t.items ≡ false
+bounds_at plant tables i t fine at =
+    (or_parts _ _ (none_at (has_wrong_value plant) tables i t (false_from_ne_true _ (fine faults.WrongValue)) at)).1
+
+-- what goes with the one at a place
+pub zipped : {A B : Type 0} (R : A → B → Type 0) (xs : List A) (ys : List B) (i : ℕ) (y : B) → AllZip R xs ys → slice_get ys i ≡ Some y
+    → (x : A) × (slice_get xs i ≡ Some x) × R x y
+zipped R [] [] i y all is = cc
+zipped R [] (z ∷ ys) i y all is = absurd all
+zipped R (x ∷ xs) [] i y all is = absurd all
+zipped R (x ∷ xs) (z ∷ ys) zero y all is = let e : z ≡ y = cc in (x, refl, subst (R x) e all.0)
+zipped R (x ∷ xs) (z ∷ ys) (suc i) y all is = zipped R xs ys i y all.1 is
+
+pub taken_next : {A : Type 0} (xs : List A) (i : ℕ) (x : A) → slice_get xs i ≡ Some x → take (i + 1) xs ≡ take i xs ++ x ∷ []
+taken_next xs i x is =
+    take_more xs i x (slice_get_within xs i x is) ∙ ap (λ y. take i xs ++ y ∷ []) (get_or_from_slice_get xs i x x is)
 
 -- ---- base chains that are left
 

@@ -37,7 +37,7 @@ module _ (plant : PlantTree) (tables : List TableTree) where
 
   -- ---- one more base chain
 
-  some_more : (bases : List BaseChain) (b : BaseChain) (test : BaseChain → Facts → Bool) → SomePacket plant tables bases test
+  pub some_more : (bases : List BaseChain) (b : BaseChain) (test : BaseChain → Facts → Bool) → SomePacket plant tables bases test
       → SomePacket plant tables (bases ++ b ∷ []) test
   some_more bases b test s = record {
     base = s.base;
@@ -47,7 +47,7 @@ module _ (plant : PlantTree) (tables : List TableTree) where
     passes = s.passes;
   }
 
-  some_new : (bases : List BaseChain) (b : BaseChain) (test : BaseChain → Facts → Bool) → SomePacket plant tables (b ∷ []) test
+  pub some_new : (bases : List BaseChain) (b : BaseChain) (test : BaseChain → Facts → Bool) → SomePacket plant tables (b ∷ []) test
       → SomePacket plant tables (bases ++ b ∷ []) test
   some_new bases b test s = record {
     base = s.base;
@@ -57,7 +57,7 @@ module _ (plant : PlantTree) (tables : List TableTree) where
     passes = s.passes;
   }
 
-  none_more : (bases : List BaseChain) (b : BaseChain) (test : BaseChain → Facts → Bool) → NoPacket plant tables bases test
+  pub none_more : (bases : List BaseChain) (b : BaseChain) (test : BaseChain → Facts → Bool) → NoPacket plant tables bases test
       → NoPacket plant tables (b ∷ []) test → NoPacket plant tables (bases ++ b ∷ []) test
   none_more bases b test old new = λ base f among comes.
       elim (Contains-append_cases bases (b ∷ []) base among) [ inl before ↦ old base f before comes | inr here ↦ new base f here comes ]

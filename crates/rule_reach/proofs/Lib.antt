@@ -1,7 +1,11 @@
-pub mod Matching
 pub mod BoxBits
 pub mod Groups
 pub mod Packets
+pub mod Made
 pub mod Bases
 pub mod Ends
 pub mod AllRules
+pub mod Earlier
+pub mod Alone
+pub mod Taking
+pub mod NotMet

@@ -15,75 +15,42 @@ use Rattle.rule_meaning.specs.declared.facts.Facts.{Facts}
 use Rattle.rule_meaning.specs.declared.facts.Interface.{Interface}
 use Rattle.rule_meaning.specs.declared.event.HookVerdict.{HookVerdict}
 use Rattle.rule_meaning.specs.Hooks.{BaseChain}
-use Rattle.rule_meaning.specs.Runs.{table_program}
 use Rattle.fact_sets.specs.declared.cases.Case.{Case}
 use Rattle.fact_sets.specs.Boxes.{NOTHING}
 use Rattle.fact_sets.specs.Facts.{facts_of}
 use Rattle.fact_sets.proofs.BoxLaws.{have_bits}
 use Rattle.rule_sets.specs.Ends.{outcomes_for}
 use Rattle.rule_sets.specs.Interfaces.{interfaces_of}
-use Rattle.chain_ways.specs.Ways.{Way, comes_to, meets, way}
+use Rattle.chain_ways.specs.Ways.{comes_to, meets}
 use Rattle.chain_sets.specs.declared.outcomes.ChainEnd.{ChainEnd}
-use Rattle.chain_sets.specs.declared.visits.RuleSets.{RuleSets}
-use Rattle.chain_sets.specs.ChainSets.{AreOnWays}
+use Rattle.chain_sets.specs.RuleSets.{sets_of}
 use Rattle.chain_sets.specs.Ends.{end_of, end_with}
 use Rattle.rule_reach.specs.declared.answers.Answer.{Answer}
 use Rattle.rule_reach.specs.declared.answers.Answer.TheVariants.{Met, NotMatched, NotReached}
 use Rattle.rule_reach.specs.declared.answers.PolicyReach.{PolicyReach}
 use Rattle.rule_reach.specs.declared.answers.Reach.{Reach}
 use Rattle.rule_reach.specs.declared.answers.RuleReach.{RuleReach}
-use Rattle.rule_reach.specs.Coming.{can_come}
-use Rattle.rule_reach.specs.Reach.{Applies, IsAnswer, IsPolicyReach, LEVELS, NoPacket, SomePacket, comes_at, ends_at, is_end, meets_at}
-use Rattle.rule_reach.specs.Reach.{table_at}
+use Rattle.rule_reach.specs.declared.sets.BaseSets.{BaseSets}
+use Rattle.coming_sets.specs.Coming.{can_come}
+use Rattle.rule_reach.specs.Reach.{Applies, IsAnswer, IsPolicyReach, NoPacket, SomePacket, base_way, comes_at, ends_at, is_end, meets_at}
+use Rattle.rule_reach.specs.Reach.{program_at}
+use Rattle.rule_reach.specs.Sets.{AreBaseSets}
 use Rattle.rule_reach.specs.steps.Rules.{IsReach}
 use Rattle.rule_reach.specs.steps.Telling.{IsAnswerBy, IsHere, IsTold, SomeEnd, at_end}
 use Rattle.rule_reach.proofs.BoxBits.{bits_of_box}
 use Rattle.rule_reach.proofs.Groups.{answer_more, contains_one}
 
-seen : PlantTree → (ℕ → Bool) → Facts
-seen plant p = facts_of (interfaces_of plant) NOTHING p
-
--- the way of packets of the box through this base chain of this table
-abbrev way_of : PlantTree → BaseChain → TableTree → Facts → Way Statement
-way_of plant b names = way (table_program plant b.number.table names) LEVELS b.number.chain
-
--- ---- a base chain of a table, the packets that come to it, and what they do
-
-pub record Walked (plant : PlantTree) (tables : List TableTree) (b : BaseChain) (names : TableTree) (d new : DiagramsView) (set : PacketSet)
-    (visits : ℕ → ℕ → RuleSets) (ends : List (Case ChainEnd)) : Type 0 where
-  pub stands : slice_get tables b.number.table ≡ Some names
-  pub coming : Means d set (λ p. can_come b (facts_of (interfaces_of plant) NOTHING p))
-  pub on_ways : AreOnWays (table_program plant b.number.table names) (interfaces_of plant)
-      (way (table_program plant b.number.table names) LEVELS b.number.chain) d new set visits ends
-
-pub enough : 256 ≤ LEVELS
-unfolding LEVELS
-enough = lit≤ tt
-
--- by sets of packets as their bits write them
-pub walked : (plant : PlantTree) (tables : List TableTree) (b : BaseChain) (names : TableTree) (d new : DiagramsView) (set : PacketSet)
-    (visits : ℕ → ℕ → RuleSets) (ends : List (Case ChainEnd)) (interfaces : List Interface) → interfaces ≡ interfaces_of plant
-    → slice_get tables b.number.table ≡ Some names → Means d set (λ p. can_come b (facts_of interfaces NOTHING p))
-    → ((levels : ℕ) → 256 ≤ levels → AreOnWays (table_program plant b.number.table names) interfaces
-    (way (table_program plant b.number.table names) levels b.number.chain) d new set visits ends) → Walked plant tables b names d new set visits ends
-walked plant tables b names d new set visits ends interfaces same stands comes on = record {
-  stands = stands;
-  coming = subst (λ i. Means d set (λ p. can_come b (facts_of i NOTHING p))) same comes;
-  on_ways = subst (λ i. AreOnWays (table_program plant b.number.table names) i (way (table_program plant b.number.table names) LEVELS b.number.chain) d new
-      set visits ends) same (on LEVELS enough);
-}
-
 same-and : (x y : Bool) → x ≡ true → (x && y) ≡ y
 same-and true y e = refl
 same-and false y e = cc
 
-module _ (plant : PlantTree) (tables : List TableTree) (b : BaseChain) (names : TableTree) (d new : DiagramsView) (set : PacketSet)
-    (visits : ℕ → ℕ → RuleSets) (ends : List (Case ChainEnd)) (w : Walked plant tables b names d new set visits ends) where
-  some_packet : (test : Facts → Bool) (all : BaseChain → Facts → Bool) → ((f : Facts) → all b f ≡ test f) → (p : ℕ → Bool)
-      → (holds d set p && test (facts_of (interfaces_of plant) NOTHING p)) ≡ true → SomePacket plant tables (b ∷ []) all
+module _ (plant : PlantTree) (tables : List TableTree) (b : BaseChain) (d : DiagramsView) (sets : BaseSets)
+    (w : AreBaseSets plant tables d b sets) where
+  pub some_packet : (test : Facts → Bool) (all : BaseChain → Facts → Bool) → ((f : Facts) → all b f ≡ test f) → (p : ℕ → Bool)
+      → (holds d sets.coming p && test (facts_of (interfaces_of plant) NOTHING p)) ≡ true → SomePacket plant tables (b ∷ []) all
   some_packet test all same p passes =
       let f = facts_of (interfaces_of plant) NOTHING p in
-      let parts = and_parts (holds d set p) (test f) passes in
+      let parts = and_parts (holds d sets.coming p) (test f) passes in
       record {
         base = b;
         among = (0, omega arith, refl);
@@ -92,31 +59,24 @@ module _ (plant : PlantTree) (tables : List TableTree) (b : BaseChain) (names : 
         passes = same f ∙ parts.1;
       }
 
-  no_packet : (test : Facts → Bool) (all : BaseChain → Facts → Bool) → ((f : Facts) → all b f ≡ test f)
-      → ((p : ℕ → Bool) → (holds d set p && test (facts_of (interfaces_of plant) NOTHING p)) ≡ false) → NoPacket plant tables (b ∷ []) all
+  pub no_packet : (test : Facts → Bool) (all : BaseChain → Facts → Bool) → ((f : Facts) → all b f ≡ test f)
+      → ((p : ℕ → Bool) → (holds d sets.coming p && test (facts_of (interfaces_of plant) NOTHING p)) ≡ false) → NoPacket plant tables (b ∷ []) all
   no_packet test all same none = λ base f among comes.
       let here = contains_one b base among in
       let bits = have_bits (interfaces_of plant) f comes.of_box in
       let can = w.coming.same bits.0 ∙ ap (can_come b) bits.1 ∙ ap (λ x. can_come x f) here ∙ comes.can in
-      ap (λ x. all x f) (sym here) ∙ same f ∙ ap test (sym bits.1) ∙ sym (same-and (holds d set bits.0) _ can) ∙ none bits.0
+      ap (λ x. all x f) (sym here) ∙ same f ∙ ap test (sym bits.1) ∙ sym (same-and (holds d sets.coming bits.0) _ can) ∙ none bits.0
 
   -- ---- rules
 
-  table_is : table_at tables b.number.table ≡ names
-  table_is = get_or_from_slice_get tables b.number.table names _ w.stands
-
-  comes_here : (r : RuleNo) → r.table ≡ b.number.table → (f : Facts) → comes_at plant tables r b f ≡ comes_to r.chain r.rule (way_of plant b names f)
-  comes_here r e f =
-      same-and _ _ (eq-eqb b.number.table r.table (sym e))
-      ∙ ap (λ t. comes_to r.chain r.rule (way (table_program plant b.number.table t) LEVELS b.number.chain f)) table_is
+  comes_here : (r : RuleNo) → r.table ≡ b.number.table → (f : Facts) → comes_at plant tables r b f ≡ comes_to r.chain r.rule (base_way plant tables b f)
+  comes_here r e f = same-and _ _ (eq-eqb b.number.table r.table (sym e))
 
   meets_here : (r : RuleNo) → r.table ≡ b.number.table → (f : Facts) → meets_at plant tables r b f
-      ≡ meets (table_program plant b.number.table names) r.chain r.rule (way_of plant b names f)
-  meets_here r e f =
-      same-and _ _ (eq-eqb b.number.table r.table (sym e))
-      ∙ ap (λ t. meets (table_program plant b.number.table t) r.chain r.rule (way (table_program plant b.number.table t) LEVELS b.number.chain f)) table_is
+      ≡ meets (program_at plant tables b.number.table) r.chain r.rule (base_way plant tables b f)
+  meets_here r e f = same-and _ _ (eq-eqb b.number.table r.table (sym e))
 
-  by_sets : (r : RuleNo) (x : Answer) → r.table ≡ b.number.table → IsAnswerBy new (visits r.chain r.rule) x → IsAnswer plant tables (b ∷ []) r x
+  by_sets : (r : RuleNo) (x : Answer) → r.table ≡ b.number.table → IsAnswerBy d (sets_of sets.rules r.chain r.rule) x → IsAnswer plant tables (b ∷ []) r x
   by_sets r Met e is = some_packet _ _ (meets_here r e) is.0 (sym ((w.on_ways.met r.chain r.rule).same is.0) ∙ is.1)
   by_sets r NotReached e is = no_packet _ _ (comes_here r e) (λ p. sym ((w.on_ways.reached r.chain r.rule).same p) ∙ is p)
   by_sets r NotMatched e is = (
@@ -131,34 +91,31 @@ module _ (plant : PlantTree) (tables : List TableTree) (b : BaseChain) (names : 
       let other = false_from_ne_true (b.number.table == r.table) (λ yes. apart (sym (eqb-true b.number.table r.table yes))) in
       ap (λ x. comes_at plant tables r x f) (sym here) ∙ rw other refl
 
-  answer_here : (old : RuleReach) (x : Answer) → IsHere new b.number.table visits old x → IsAnswer plant tables (b ∷ []) old.rule x
+  answer_here : (old : RuleReach) (x : Answer) → IsHere d b.number.table (sets_of sets.rules) old x → IsAnswer plant tables (b ∷ []) old.rule x
   answer_here old x (inl here) = by_sets old.rule x here.0 here.1
   answer_here old x (inr there) = subst (IsAnswer plant tables (b ∷ []) old.rule) (sym there.1) (elsewhere old.rule there.0)
 
-  answer_told : (bases : List BaseChain) (old now : RuleReach) → IsTold new b.number.table visits old now
+  answer_told : (bases : List BaseChain) (old now : RuleReach) → IsTold d b.number.table (sets_of sets.rules) old now
       → IsAnswer plant tables bases old.rule old.answer → IsAnswer plant tables (bases ++ b ∷ []) now.rule now.answer
   answer_told bases old now told was =
       let more = bases ++ b ∷ [] in
       subst (λ r. IsAnswer plant tables more r now.answer) (sym told.rule) (subst (IsAnswer plant tables more old.rule) (sym told.both)
       (answer_more plant tables bases b old.rule old.answer told.answer was (answer_here old told.answer told.is_here)))
 
-  answers_told : (bases : List BaseChain) (olds nows : List RuleReach) → AllZip (IsTold new b.number.table visits) olds nows
+  answers_told : (bases : List BaseChain) (olds nows : List RuleReach) → AllZip (IsTold d b.number.table (sets_of sets.rules)) olds nows
       → All (λ r. IsAnswer plant tables bases r.rule r.answer) olds → All (λ r. IsAnswer plant tables (bases ++ b ∷ []) r.rule r.answer) nows
   answers_told bases olds nows told was = λ k x lt.
-      let same = length_all_zip (IsTold new b.number.table visits) olds nows told in
+      let same = length_all_zip (IsTold d b.number.table (sets_of sets.rules)) olds nows told in
       let inside : k < length olds = omega arith in
-      answer_told bases (get_or olds k x) (get_or nows k x) (AllZip-get_or (IsTold new b.number.table visits) olds nows k x x told inside) (was k x inside)
+      answer_told bases (get_or olds k x) (get_or nows k x) (AllZip-get_or (IsTold d b.number.table (sets_of sets.rules)) olds nows k x x told inside) (was k x inside)
 
-  rules_told : (olds nows : List RuleReach) → AllZip (IsTold new b.number.table visits) olds nows → map (λ r. r.rule) nows ≡ map (λ r. r.rule) olds
+  rules_told : (olds nows : List RuleReach) → AllZip (IsTold d b.number.table (sets_of sets.rules)) olds nows → map (λ r. r.rule) nows ≡ map (λ r. r.rule) olds
   rules_told [] [] told = refl
   rules_told (x ∷ xs) (y ∷ ys) told = let here = told.0.rule in let rest = rules_told xs ys told.1 in cc
   rules_told [] (y ∷ ys) told = absurd told
   rules_told (x ∷ xs) [] told = absurd told
 
   -- ---- the policy
-
-  end_here : (f : Facts) → ends_at plant tables b f ≡ is_end (way_of plant b names f).end
-  end_here f = ap (λ t. is_end (way (table_program plant b.number.table t) LEVELS b.number.chain f).end) table_is
 
   end-is : (v : Option HookVerdict) (f : Facts) → is_end (end_with v f) ≡ not (is_some v)
   end-is None f = refl
@@ -168,12 +125,12 @@ module _ (plant : PlantTree) (tables : List TableTree) (b : BaseChain) (names : 
   ends-are p [] = refl
   ends-are p (e ∷ es) = rw (end-is e.verdict (facts_of (interfaces_of plant) e.written p), ends-are p es) refl
 
-  ends_for : (p : ℕ → Bool) → (holds d set p && is_end (way_of plant b names (facts_of (interfaces_of plant) NOTHING p)).end) ≡ at_end new ends p
-  ends_for p = sym (w.on_ways.they_end p is_end) ∙ ends-are p (outcomes_for new ends p)
+  ends_for : (p : ℕ → Bool) → (holds d sets.coming p && is_end (base_way plant tables b (facts_of (interfaces_of plant) NOTHING p)).end) ≡ at_end d sets.ends.items p
+  ends_for p = sym (w.on_ways.they_end p is_end) ∙ ends-are p (outcomes_for d sets.ends.items p)
 
-  policy_here : (x : Bool) → SomeEnd new ends x → Applies plant tables b x
-  policy_here true is = some_packet (λ f. is_end (way_of plant b names f).end) (ends_at plant tables) end_here is.0 (ends_for is.0 ∙ is.1)
-  policy_here false is = no_packet (λ f. is_end (way_of plant b names f).end) (ends_at plant tables) end_here (λ p. ends_for p ∙ is p)
+  policy_here : (x : Bool) → SomeEnd d sets.ends.items x → Applies plant tables b x
+  policy_here true is = some_packet (ends_at plant tables b) (ends_at plant tables) (λ f. refl) is.0 (ends_for is.0 ∙ is.1)
+  policy_here false is = no_packet (ends_at plant tables b) (ends_at plant tables) (λ f. refl) (λ p. ends_for p ∙ is p)
 
   policy_kept : (bases : List BaseChain) (p : PolicyReach) → IsPolicyReach plant tables bases p → IsPolicyReach plant tables (bases ++ b ∷ []) p
   policy_kept bases p is = record {
@@ -185,23 +142,30 @@ module _ (plant : PlantTree) (tables : List TableTree) (b : BaseChain) (names : 
 
   -- ---- all that is told
 
-  pub reach_more : (bases : List BaseChain) (old now : Reach) (x : Bool) → IsReach plant tables bases old
-      → AllZip (IsTold new b.number.table visits) old.rules.items now.rules.items → SomeEnd new ends x
-      → now.policies.items ≡ old.policies.items ++ record { chain = b.number; applies = x } ∷ [] → IsReach plant tables (bases ++ b ∷ []) now
-  reach_more bases old now x was told ended pushed =
+  reach_here : (bases : List BaseChain) (old now : Reach) (x : Bool) → IsReach plant tables bases old
+      → AllZip (IsTold d b.number.table (sets_of sets.rules)) old.rules.items now.rules.items → SomeEnd d sets.ends.items x
+      → now.policies.items ≡ old.policies.items ++ record { chain = sets.chain; applies = x } ∷ [] → IsReach plant tables (bases ++ b ∷ []) now
+  reach_here bases old now x was told ended pushed =
       let more = bases ++ b ∷ [] in
-      let one : PolicyReach = record { chain = b.number; applies = x } in
+      let one : PolicyReach = record { chain = sets.chain; applies = x } in
       let its : IsPolicyReach plant tables more one = record {
         base = b;
         among = Contains-append_right bases (b ∷ []) b (0, omega arith, refl);
-        has_number = refl;
+        has_number = sym w.chain;
         applies = policy_here x ended;
       } in
       record {
         rules = rules_told old.rules.items now.rules.items told ∙ was.rules;
         answers = answers_told bases old.rules.items now.rules.items told was.answers;
         policies = ap (map (λ p. p.chain)) pushed ∙ map-append (λ p. p.chain) old.policies.items (one ∷ [])
-            ∙ ap (λ l. l ++ b.number ∷ []) was.policies ∙ sym (map-append (λ c. c.number) bases (b ∷ []));
+            ∙ ap (λ l. l ++ sets.chain ∷ []) was.policies ∙ ap (λ n. map (λ c. c.number) bases ++ n ∷ []) w.chain ∙ sym (map-append (λ c. c.number) bases (b ∷ []));
         applies = subst (All (IsPolicyReach plant tables more)) (sym pushed) (All-push (IsPolicyReach plant tables more) old.policies.items one
             (All-weaker (IsPolicyReach plant tables bases) (IsPolicyReach plant tables more) (policy_kept bases) old.policies.items was.applies) its);
       }
+
+  -- where the sets name the base chain
+  pub reach_more : (bases : List BaseChain) (old now : Reach) (x : Bool) → IsReach plant tables bases old
+      → AllZip (IsTold d sets.chain.table (sets_of sets.rules)) old.rules.items now.rules.items → SomeEnd d sets.ends.items x
+      → now.policies.items ≡ old.policies.items ++ record { chain = sets.chain; applies = x } ∷ [] → IsReach plant tables (bases ++ b ∷ []) now
+  reach_more bases old now x was told =
+      reach_here bases old now x was (subst (λ n. AllZip (IsTold d n.table (sets_of sets.rules)) old.rules.items now.rules.items) w.chain told)

@@ -1,3 +1,4 @@
-pub mod Coming
 pub mod Reach
+pub mod Sets
+pub mod Takers
 pub mod steps

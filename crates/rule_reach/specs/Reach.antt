@@ -2,16 +2,13 @@
 -- come to a base chain, whatever other base chains did before. (own, but for what the ways of packets are)
 use Rattle.std.specs.Prelude.{◌≡◌, ℕ, suc, ◌+◌, ◌==◌, ◌&&◌, Bool, true, false, List, [], ◌∷◌, ◌++◌, filter}
 use Rattle.std.specs.Prelude.{Contains, slice_index_or}
-use Rattle.std.specs.List.{list_any}
 use Rattle.nft_tree.specs.declared.ruleset.Family.TheVariants.{Ip}
 use Rattle.nft_tree.specs.declared.ruleset.RuleNo.{RuleNo}
 use Rattle.nft_tree.specs.Tree.{ChainTree, RuleTree, Statement, TableTree}
 use Rattle.nft_tree.specs.TableItems.{chains_of}
 use Rattle.box_file.specs.Box.{PlantTree}
 use Rattle.rule_meaning.specs.declared.facts.Facts.{Facts}
-use Rattle.rule_meaning.specs.declared.stage.HookStage.{HookStage}
-use Rattle.rule_meaning.specs.declared.stage.HookStage.TheVariants as stages
-use Rattle.rule_meaning.specs.Hooks.{BaseChain, base_chains_of, chains_in_stage}
+use Rattle.rule_meaning.specs.Hooks.{BaseChain, base_chains_of}
 use Rattle.rule_meaning.specs.Runs.{Program, table_program}
 use Rattle.fact_sets.specs.Boxes.{IsOfBox}
 use Rattle.rule_sets.specs.Interfaces.{interfaces_of}
@@ -19,7 +16,8 @@ use Rattle.chain_ways.specs.Ways.{Way, WayEnd, comes_to, ended, meets, over, way
 use Rattle.rule_reach.specs.declared.answers.Answer.{Answer}
 use Rattle.rule_reach.specs.declared.answers.Answer.TheVariants.{Met, NotMatched, NotReached}
 use Rattle.rule_reach.specs.declared.answers.PolicyReach.{PolicyReach}
-use Rattle.rule_reach.specs.Coming.{can_come}
+use Rattle.coming_sets.specs.Bases.{runs}
+use Rattle.coming_sets.specs.Coming.{can_come}
 
 -- ---- all rules of a ruleset, in text order
 
@@ -42,16 +40,6 @@ abbrev pub rules_of : List TableTree → List RuleNo
 rules_of = rules_of_tables 0
 
 -- ---- base chains to which packets come
-
-abbrev pub STAGES : List HookStage
-STAGES = stages.PreroutingRaw ∷ stages.PreroutingBeforeNat ∷ stages.PreroutingNat ∷ stages.PreroutingAfterNat
-    ∷ stages.Input ∷ stages.Forward ∷ stages.PostroutingBeforeNat ∷ stages.PostroutingNat
-    ∷ stages.PostroutingAfterNat ∷ []
-
--- it runs in one of the stages: all do but those on output, and chains of type nat on input and forward,
--- which a well-formed ruleset has none of
-abbrev pub runs : BaseChain → Bool
-runs b = list_any (λ stage. chains_in_stage stage b) STAGES
 
 -- in text order
 abbrev pub run_chains : List TableTree → List BaseChain

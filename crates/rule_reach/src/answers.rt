@@ -1,5 +1,6 @@
 //! What packets do at the rules of a ruleset, and to which its policies apply.
 ghost use Rattle.std.specs.Prelude.{◌≡◌};
+ghost use Rattle.rule_reach.specs.Takers.{is_unmet};
 ghost use Rattle.rule_reach.specs.steps.Answering.{better};
 
 use chain_sets::WalkError;
@@ -41,6 +42,17 @@ pub struct Reach {
     pub rules: Vec<RuleReach>,
     /// The base chains to which packets come, in text order.
     pub policies: Vec<PolicyReach>,
+}
+
+/// A rule that no packet meets, and why.
+#[derive(Drop)]
+pub struct Unmet {
+    pub rule: RuleNo,
+    /// The numbers of the rules of its chain, in order, that take packets which would meet it as they
+    /// came to a base chain: such a packet comes to the rule with the number, and not to the next.
+    pub takers: Vec<u32>,
+    /// Whether any packet that comes to the first rule of its chain would meet it as it came.
+    pub matches_some: bool,
 }
 
 /// Why it isn't told.
@@ -105,6 +117,15 @@ impl<T: Drop> From<AllocFailed<T>> for ReachError {
 
     fn from(_error: AllocFailed<T>) -> ReachError {
         ReachError::Memory
+    }
+}
+
+impl RuleReach {
+    /// Whether no packet meets it.
+    pub(crate) fn is_unmet(self) -> bool
+        ensures { result ≡ is_unmet self }
+    {
+        !matches!(self.answer, Answer::Met)
     }
 }
 

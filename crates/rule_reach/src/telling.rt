@@ -4,13 +4,21 @@ ghost use Rattle.std.specs.List.{AllZip};
 ghost use Rattle.packet_sets.specs.Sets.{IsSet};
 ghost use Rattle.fact_sets.specs.Effects.{AreCases};
 ghost use Rattle.chain_sets.specs.RuleSets.{sets_of};
-ghost use Rattle.rule_reach.specs.steps.Telling.{AreRuleSets, IsAnswerBy, IsTold, SomeEnd};
+ghost use Rattle.rule_reach.specs.steps.Telling.{AreRuleSets, HasPacket, IsAnswerBy, IsTold, SomeEnd};
 
 use crate::answers::{Answer, RuleReach};
 use chain_sets::{ChainEnd, RuleSets, Visits};
 use fact_sets::Case;
-use packet_sets::Diagrams;
+use packet_sets::{Diagrams, PacketSet};
 use std::alloc::{AllocError, Global};
+
+/// Whether some packet is in the set.
+pub(crate) fn has_packet(diagrams: &Diagrams, set: PacketSet) -> bool
+    requires { IsSet diagrams.now set }
+    ensures { HasPacket diagrams.now set result }
+{
+    !diagrams.is_none(set)
+}
 
 /// What packets do at a rule, by those that come to it, and those that meet its last statement.
 fn answer(diagrams: &Diagrams, sets: RuleSets) -> Answer

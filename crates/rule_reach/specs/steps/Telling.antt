@@ -1,6 +1,7 @@
 -- What sets of packets tell of rules and of the ends of ways.
 use Rattle.std.specs.Prelude.{◌≡◌, ◌⊎◌, ℕ, Bool, true, false, not, List, is_some}
 use Rattle.std.specs.List.{list_any}
+use Rattle.packet_sets.specs.declared.packet_set.PacketSet.{PacketSet}
 use Rattle.packet_sets.specs.Sets.{DiagramsView, IsSet, holds}
 use Rattle.fact_sets.specs.declared.cases.Case.{Case}
 use Rattle.rule_sets.specs.Ends.{outcomes_for}
@@ -17,6 +18,11 @@ SomeIn test = (packet : ℕ → Bool) × (test packet ≡ true)
 
 abbrev pub NoneIn : ((ℕ → Bool) → Bool) → Type 0
 NoneIn test = (packet : ℕ → Bool) → test packet ≡ false
+
+-- whether a packet is in the set
+abbrev pub HasPacket : DiagramsView → PacketSet → Bool → Type 0
+HasPacket d set true = SomeIn (holds d set)
+HasPacket d set false = NoneIn (holds d set)
 
 abbrev pub IsAnswerBy : DiagramsView → RuleSets → Answer → Type 0
 IsAnswerBy d sets Met = SomeIn (holds d sets.met)

@@ -1,0 +1,20 @@
+use Rattle.std.proofs.Common.{refl}
+use Rattle.fact_sets.proofs.SetLaws.{keeps_trans}
+use Rattle.rule_reach.specs.Sets.{AreSetsOf}
+use Rattle.rule_reach.specs.declared.sets.BaseSets.{BaseSets}
+use Rattle.coming_sets.specs.Bases.{base_chain}
+use Rattle.rule_reach.proofs.Made.{made, one_more}
+use Rattle.rule_reach.proofs.making.add_base.Goals as goal
+
+pub returns-clause-sets : goal.returns-clause-sets
+returns-clause-sets c = λ tables before stands was.
+    let plant = c.args.place.setting.plant.now in
+    let names = c.args.place.setting.names.now in
+    let b = base_chain c.args.base in
+    let made_sets = c.in_ok-sets.sets in
+    let s : BaseSets = record { chain = c.args.base.number; coming = c.in_ok-coming.coming; rules = made_sets.rules; ends = made_sets.ends } in
+    let keeps = keeps_trans c.args.diagrams.now c.coming.new.diagrams c.chain_sets.new.diagrams c.coming.ensures.keeps c.chain_sets.ensures.keeps in
+    let here = made plant tables b names c.coming.new.diagrams c.chain_sets.new.diagrams s c.args.place.interfaces.now c.requires.interfaces stands refl
+    c.chain_sets.ensures.keeps c.in_ok-coming.ensures.value c.in_ok-sets.ensures.value in
+    rw c.in_ok-push.ensures.items
+    (one_more plant tables c.args.diagrams.now c.chain_sets.new.diagrams before b c.args.bases.now.items s keeps here was)
