@@ -135,7 +135,8 @@ class CallTests(Judge):
             if kind == "announce":
                 wanted += "accepted tables {} chains {} rules {}\n".format(*rest.split())
             elif kind == "reach" and not call.endswith(" in vain"):
-                wanted += self.data.texts["rules that can be met"]
+                has_sets = call.endswith(" with sets")
+                wanted += self.data.texts["packets that meet rules" if has_sets else "rules that can be met"]
             elif kind == "show":
                 wanted += self.data.text_of_code(rest)
         self.equal("standard output", wanted, printed)

@@ -87,11 +87,12 @@ class TaskTests(Judge):
 
     def try_reach(self, words: Sequence[str], task: str) -> None:
         """Tells which rules of a ruleset can be met, and refuses another."""
-        rules, box = task.split()
+        rules, box, *has_sets = task.split()
         paths = {"rules": rules, "box": box}
         begin = self.data.lists["run"][:3]
-        met = Printed(0, self.data.texts["rules that can be met"], "")
-        self.check(words, paths, self.data.accepted, met, [*begin, "reach rules box"])
+        name, call = ("packets that meet rules", "reach rules box with sets") if has_sets else (
+            "rules that can be met", "reach rules box")
+        self.check(words, paths, self.data.accepted, Printed(0, self.data.texts[name], ""), [*begin, call])
         refused = Printed(1, "", "nftrun: rules N06\n")
         end = ["reach rules box in vain", "tell nftrun: rules N06"]
         self.check(words, paths, self.data.refused, refused, [*begin, *end])

@@ -5,9 +5,10 @@ The facts of one draw need not come of any history: a run may never see them tog
 """
 from __future__ import annotations
 
+import copy
 import struct
 from dataclasses import dataclass, field
-from typing import Set, Tuple
+from typing import AbstractSet, Dict, Set, Tuple
 
 from drawn import BOX, Drawing
 from reading import Chain, Head, Met, Rule, Table, Taken
@@ -30,6 +31,14 @@ class Reached:
     rules: Set[Where] = field(default_factory=set)
     met: Set[Where] = field(default_factory=set)
     ended: Set[str] = field(default_factory=set)
+    # Of rules, the numbers of those of their chain that took facts which would have met them as they came.
+    takers: Dict[Where, Set[int]] = field(default_factory=dict)
+
+    def add(self, other: Reached) -> None:
+        """What others came to, too."""
+        self.rules |= other.rules
+        self.met |= other.met
+        self.ended |= other.ended
 
 
 class Told(Tracking):
@@ -63,6 +72,19 @@ class Watched(Rule):
             if not isinstance(answer, bool):
                 return answer
         return None
+
+
+def would_meet(rule: Rule, where: Where, met: Met) -> bool:
+    """Whether facts meet the last statement of a rule, taken by itself."""
+    alone = Reached()
+    Watched(rule.statements, where, alone).verdict(copy.deepcopy(met))
+    return where in alone.met
+
+
+def takers(where: Where, came: AbstractSet[Where]) -> Set[int]:
+    """The rules of the chain to which facts came, and not to the next, before this one."""
+    path, number = where
+    return {it for it in range(1, number) if (path, it) in came and (path, it + 1) not in came}
 
 
 def watch(table: Table, reached: Reached) -> None:
@@ -112,12 +134,22 @@ class FactsDrawing(Drawing):
             met.ct = self.tracking(packet, head.kind == "nat")
         return met
 
-    def come_to(self, table: Table, chain: Chain, reached: Reached) -> None:
-        """One draw through a base chain of a watched table."""
+    def come_to(self, table: Table, chain: Chain, reached: Reached, unmet: AbstractSet[Where]) -> None:
+        """One draw through a base chain of a table; of these rules, who takes it where they would meet it."""
         assert chain.head is not None
         met = self.facts(chain.head)
-        if met and not chain.run(table, met):
-            reached.ended.add(chain.path)
+        if not met:
+            return
+        first, way = copy.deepcopy(met), Reached()
+        watch(table, way)
+        if not chain.run(table, met):
+            way.ended.add(chain.path)
+        reached.add(way)
+        for each in table.chains.values():
+            for number, rule in enumerate(each.rules, 1):
+                where = each.path, number
+                if where in unmet and (each.path, 1) in way.rules and would_meet(rule, where, first):
+                    reached.takers.setdefault(where, set()).update(takers(where, way.rules))
 
 
 def base_chains(table: Table) -> list[Chain]:

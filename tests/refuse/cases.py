@@ -150,6 +150,8 @@ def cases(every_row: bool) -> Iterator[Case]:
     yield from of_checks(box)
     accepted = contents(f"{TOP}/tests/calls/accepted.nft")
     yield Case("what can be met", ["reach", "rules", "box"], {"rules": accepted, "box": box})
+    unmet = contents(f"{ROWS}/unmet.nft")
+    yield Case("which packets meet rules", ["reach", "--sets", "rules", "box"], {"rules": unmet, "box": box})
     yield Case("no words", [])
     yield Case("help", ["run", "--help"])
     yield Case("no file", ["check", "rules", "none"], {"rules": b""})

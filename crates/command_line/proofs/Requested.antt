@@ -67,7 +67,7 @@ check_form = record {
 }
 
 abbrev pub reach_form : Form
-reach_form = record check_form { name = codes "reach"; rules = (sub 2).rules; flags = codes "explain" ∷ codes "no-explain" ∷ [] }
+reach_form = record check_form { name = codes "reach"; rules = (sub 2).rules; flags = codes "sets" ∷ codes "explain" ∷ codes "no-explain" ∷ [] }
 
 abbrev pub explain_form : Form
 explain_form = record check_form { name = codes "explain"; rules = (sub 3).rules; ids = codes "code" ∷ []; flags = [] }
@@ -380,12 +380,13 @@ module _ (words : List Text) (name : Text) (f : Found) (got : HasRead words name
       )
   task_requested (Reach task) gives =
       let t = taken reach_form (λ j. by_name (gives.0 j) (gives.1 j) (bytes_eq name (codes "explain"))) in
-      let explaining = explaining_is reach_form reach_sub t (Some task.explaining) refl refl gives.2 in
+      let explaining = explaining_is reach_form reach_sub t (Some task.explaining) refl refl gives.3 in
       rw t.0 (
         refl,
         λ texts. grind (arith, t.1.1 texts, ap is_some explaining),
+        flag_is reach_form reach_sub t (codes "sets") task.sets refl gives.2,
         explaining,
-        paths_are reach_form reach_sub t ∙ sym (λ j. gives.3 j ∷ gives.4 j ∷ []),
+        paths_are reach_form reach_sub t ∙ sym (λ j. gives.4 j ∷ gives.5 j ∷ []),
       )
   task_requested (Explain code) gives =
       let t = taken explain_form (λ j. by_name (gives.0 j) (gives.1 j) (gives.2 j)) in

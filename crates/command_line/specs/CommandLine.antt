@@ -107,7 +107,7 @@ abbrev pub check_flags : List Text
 check_flags = codes "--all" ∷ codes "--explain" ∷ codes "--no-explain" ∷ codes "--nft" ∷ []
 
 abbrev pub reach_flags : List Text
-reach_flags = codes "--explain" ∷ codes "--no-explain" ∷ []
+reach_flags = codes "--sets" ∷ codes "--explain" ∷ codes "--no-explain" ∷ []
 
 -- whether faults are explained, by whether `--explain` and `--no-explain` are there, which exclude each
 -- other
@@ -132,7 +132,8 @@ is_run rest = names_file rest && (are_operands 4 (without_flags run_flags (witho
 abbrev pub is_check : List Text → Bool
 is_check rest = are_operands 2 (without_flags check_flags rest) && is_some (explaining_in rest)
 
--- two paths, with `--explain` or `--no-explain`, each at most once, anywhere before the first `--`
+-- two paths, with `--sets`, and `--explain` or `--no-explain`, each at most once, anywhere before the first
+-- `--`
 abbrev pub is_reach : List Text → Bool
 is_reach rest = are_operands 2 (without_flags reach_flags rest) && is_some (explaining_in rest)
 
@@ -161,7 +162,8 @@ RequestsTask (program ∷ name ∷ rest) (Check task) =
     × (Some task.explaining ≡ explaining_in rest)
     × (operands (without_flags check_flags rest) ≡ task.texts.rules.now ∷ task.texts.plant.now ∷ [])
 RequestsTask (program ∷ name ∷ rest) (Reach task) =
-    (name ≡ codes "reach") × (AreTexts rest → is_reach rest ≡ true) × (Some task.explaining ≡ explaining_in rest)
+    (name ≡ codes "reach") × (AreTexts rest → is_reach rest ≡ true)
+    × (task.sets ≡ has_flag (codes "--sets") rest) × (Some task.explaining ≡ explaining_in rest)
     × (operands (without_flags reach_flags rest) ≡ task.texts.rules.now ∷ task.texts.plant.now ∷ [])
 RequestsTask (program ∷ name ∷ rest) (Explain code) =
     (name ≡ codes "explain") × (AreTexts rest → is_explain rest ≡ true) × (operands rest ≡ code.now ∷ [])

@@ -1,6 +1,6 @@
 //! Parses the command line (`nftrun run [--explain | --no-explain] [--trace] [--report FILE] RULES BOX
 //! IN OUT`, `nftrun check [--explain | --no-explain] [--all] [--nft] RULES BOX`, `nftrun reach [--explain |
-//! --no-explain] RULES BOX`, `nftrun explain CODE`).
+//! --no-explain] [--sets] RULES BOX`, `nftrun explain CODE`).
 #![tactic(auto)]
 
 mod parsing;

@@ -17,9 +17,10 @@ use std::alloc::{AllocError, Global};
 /// goes after a word `--`, which is no path itself; `-` alone is a path.
 ///
 /// A run may have `--trace` once, and `--report FILE` or `--report=FILE` once; a check may have
-/// `--all` and `--nft`, once each; these and `reach` may have `--explain` or `--no-explain`, which
-/// exclude each other. Options may be anywhere between the subcommand and the first `--`, behind
-/// which each word is a path. A FILE that begins with a hyphen is given as `--report=FILE`.
+/// `--all` and `--nft`, once each, and `reach` may have `--sets` once; all three may have `--explain`
+/// or `--no-explain`, which exclude each other. Options may be anywhere between the subcommand and
+/// the first `--`, behind which each word is a path. A FILE that begins with a hyphen is given as
+/// `--report=FILE`.
 ///
 /// # Errors
 /// clap's, whose `exit_code` is 0 where help was requested, and 2 where the words are no task.
@@ -65,6 +66,7 @@ fn task_of<'a>(name: &str, given: &ArgMatches<'a>) -> Option<Task<'a>>
     }
     if name == "reach" {
         return Some(Task::Reach(ReachTask {
+            sets: given.get_flag("sets"),
             explaining: explaining_of(given)?,
             texts: texts_of(given),
         }));

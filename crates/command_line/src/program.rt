@@ -18,6 +18,8 @@ const ALL_HELP: &str = "Tells all faults of RULES that can be found, and not the
 const NFT_HELP: &str =
     "Warns of what nft(8) 1.0.6 refuses, or of what means something else on Linux";
 
+const SETS_HELP: &str = "Tells of each rule which packets reach and meet it, as matches of nft(8)";
+
 const EXPLAIN_HELP: &str =
     "Tells what a fault means, and where it is; on a terminal that is done without it";
 
@@ -84,8 +86,10 @@ Examples:
 
 /// The end of `reach --help`.
 const REACH_NOTES: &str = "\
-Of each rule it tells whether some packet can meet it, and of each base chain
-whether its policy can apply. A path that begins with a hyphen goes after --.
+Of each rule it tells whether some packet can meet it, and which earlier rules
+take the packets of one that none meets; of each base chain whether its policy
+can apply. With --explain it tells why a rule can't be met, and where it is. A
+path that begins with a hyphen goes after --.
 
 Exit statuses:
   0  each rule can be met
@@ -99,7 +103,8 @@ Exit statuses:
 
 Examples:
   nftrun reach rules.nft box.txt
-  nftrun reach rules.nft box.txt | grep never";
+  nftrun reach rules.nft box.txt | grep never
+  nftrun reach --sets rules.nft box.txt";
 
 /// A help that lists exit statuses.
 #[derive(Clone, Copy)]
@@ -182,6 +187,7 @@ static SUBCOMMANDS: [Subcommand; 4] = [
         arguments: &[
             Argument::Path("rules", "RULES", "The file of the ruleset"),
             Argument::Path("plant", "BOX", "The file of the box"),
+            Argument::Flag("sets", SETS_HELP),
             Argument::Flag("explain", EXPLAIN_HELP),
             Argument::Flag("no-explain", NO_EXPLAIN_HELP),
         ],

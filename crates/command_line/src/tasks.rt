@@ -11,7 +11,7 @@ pub enum Task<'a> {
     /// `check [--explain | --no-explain] [--all] [--nft] RULES BOX`: check a ruleset before it is
     /// loaded.
     Check(CheckTask<'a>),
-    /// `reach [--explain | --no-explain] RULES BOX`: tell which rules some packet can meet.
+    /// `reach [--explain | --no-explain] [--sets] RULES BOX`: tell which rules some packet can meet.
     Reach(ReachTask<'a>),
     /// `explain CODE`: print what a code means.
     Explain(&'a str),
@@ -66,6 +66,8 @@ pub struct CheckTask<'a> {
 /// An analysis of which rules some packet can meet.
 #[derive(Clone, Copy)]
 pub struct ReachTask<'a> {
+    /// Whether the packets that reach and meet each rule are told.
+    pub sets: bool,
     pub explaining: Explaining,
     pub texts: CheckPaths<'a>,
 }

@@ -1,7 +1,8 @@
 //! What nft(8) 1.0.6 makes of a ruleset that is accepted here: what it refuses, and what it, or
-//! Linux, means otherwise.
+//! Linux, means otherwise; and where its rules are.
 //!
-//! Each warning was tried against nft. No contract says which are given: they are a help.
+//! Each warning was tried against nft. No contract says which are given, nor the places: they are a
+//! help.
 #![tactic(auto)]
 
 mod chains;
@@ -11,6 +12,7 @@ mod intervals;
 mod layout;
 mod names;
 mod outline;
+mod places;
 mod ports;
 mod protocols;
 mod rules;
@@ -19,3 +21,4 @@ mod tokens;
 mod warning;
 
 pub use findings::warnings;
+pub use places::rule_offsets;

@@ -42,8 +42,8 @@ pub data Call (Input Output : Type 0) : Type 0 where
   -- prints the line of an accepted ruleset
   print_accepted : Counts → Result ⊤ Error → Call Input Output
   -- checks a ruleset's text for a box file's text, and prints which rules can be met and which policies can
-  -- apply; whether each rule can be met
-  reach : Text → Text → Result Bool ReachFault → Call Input Output
+  -- apply, and where it is so asked which packets reach and meet each rule; whether each rule can be met
+  reach : Text → Text → Bool → Result Bool ReachFault → Call Input Output
   -- prints the line of a status
   print_status : Status → Call Input Output
   -- prints what the status of a task means, and where its fault is

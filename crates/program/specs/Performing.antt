@@ -38,7 +38,7 @@ Shows _ _ _ = ⊥
 abbrev pub RunsTask : {I O : Type 0} → Task → List (Call I O) → Status → Type 0
 RunsTask (Run task) calls status = Replays task calls status
 RunsTask (Check task) calls status = Examines task.texts calls status
-RunsTask (Reach task) calls status = Reaches task.texts calls status
+RunsTask (Reach task) calls status = Reaches task calls status
 RunsTask (Explain code) calls status = Shows code.now calls status
 
 -- the line of a status that has one

@@ -85,11 +85,11 @@ pub trait Host {
     fn print_accepted(&mut self, counts: Counts) -> io::Result<()>
         ensures { happens self.old (print_accepted counts result) self.new };
 
-    /// Checks a ruleset for a box, and prints to standard output of each rule whether some packet can
-    /// meet it, and of each base chain whether its policy can apply. Returns whether each rule can be
-    /// met.
-    fn reach(&mut self, rules: Vec<u8>, plant: &[u8]) -> Result<bool, ReachFault>
-        ensures { happens self.old (reach rules.items plant.now result) self.new };
+    /// Checks a ruleset, whose text the host may keep, for a box, and prints to standard output of
+    /// each rule whether some packet can meet it, and of each base chain whether its policy can apply;
+    /// with `sets` also which packets reach and meet each rule. Returns whether each rule can be met.
+    fn reach(&mut self, rules: Vec<u8>, plant: &[u8], sets: bool) -> Result<bool, ReachFault>
+        ensures { happens self.old (reach rules.items plant.now sets result) self.new };
 
     /// Prints the status's line to standard error. A failed write is ignored: the exit status
     /// remains.

@@ -83,7 +83,7 @@ fn run_task<H: Host>(host: &mut H, task: &Task<'_>) -> Status
     match task {
         Task::Run(task) => replay(host, task),
         Task::Check(task) => examine(host, &task.texts),
-        Task::Reach(task) => reach(host, &task.texts),
+        Task::Reach(task) => reach(host, task),
         Task::Explain(code) => show(host, code),
     }
 }

@@ -5,19 +5,20 @@ ghost use Rattle.program.specs.steps.AnswerStatus.{reach_status};
 
 use crate::host::Host;
 use crate::status::Status;
-use command_line::CheckPaths;
+use command_line::ReachTask;
 
 /// Prints of each rule of the ruleset RULES whether some packet can meet it on the box BOX, and of
-/// each base chain whether its policy can apply.
+/// each base chain whether its policy can apply; with `--sets` also which packets reach and meet
+/// each rule.
 ///
 /// Both files are read whole, RULES first. Where one can't be read, the ruleset is rejected, or the
 /// answer is too large to compute, nothing is printed to standard output. Where a rule can't be met
 /// the answer is printed all the same.
-pub fn reach<H: Host>(host: &mut H, texts: &CheckPaths<'_>) -> Status
+pub fn reach<H: Host>(host: &mut H, task: &ReachTask<'_>) -> Status
     // These are all calls, in order, and the status is that of the one that failed, or of the answer.
-    ensures { MakesCalls H.happens host.old host.new (λ calls. Reaches texts.now calls result) }
+    ensures { MakesCalls H.happens host.old host.new (λ calls. Reaches task.now calls result) }
 {
-    match try_reach(host, texts) {
+    match try_reach(host, task) {
         Ok(true) => Status::Success,
         Ok(false) => Status::Unmet,
         Err(status) => status,
@@ -25,11 +26,11 @@ pub fn reach<H: Host>(host: &mut H, texts: &CheckPaths<'_>) -> Status
 }
 
 /// Returns whether each rule can be met.
-fn try_reach<H: Host>(host: &mut H, texts: &CheckPaths<'_>) -> Result<bool, Status>
+fn try_reach<H: Host>(host: &mut H, task: &ReachTask<'_>) -> Result<bool, Status>
     ensures { MakesCalls H.happens host.old host.new (λ calls.
-        Reaches texts.now calls (reach_status result)) }
+        Reaches task.now calls (reach_status result)) }
 {
-    let rules = host.read(texts.rules)?;
-    let plant = host.read(texts.plant)?;
-    Ok(host.reach(rules, &plant)?)
+    let rules = host.read(task.texts.rules)?;
+    let plant = host.read(task.texts.plant)?;
+    Ok(host.reach(rules, &plant, task.sets)?)
 }

@@ -2,3 +2,5 @@
 pub mod Analyses
 pub mod Promised
 pub mod ReachLines
+pub mod SetTexts
+pub mod Told

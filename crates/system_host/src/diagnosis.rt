@@ -1,5 +1,6 @@
 //! Explains a status and locates its fault.
 use crate::destination::Destination;
+use crate::unmet_reasons::UnmetReasons;
 use box_file::Plant;
 use capture_remarks::{Fullness, SecondRun, Texts, capture_location, remarks, table_remarks};
 use command_line::{ReplayPaths, Task};
@@ -12,6 +13,12 @@ use std::random::RandomSource;
 use std::rt::Files;
 use std::{fs, io};
 
+/// Why an answer is too large, and what to try.
+const TOO_LARGE: &str = "\
+The sets of packets get too large, or chains call one another more than 256 deep.
+Sets grow where many rules test several fields, each with other values: ask of parts of the ruleset,
+as of one table or base chain, or write rules that test fewer fields.";
+
 /// Prints to standard error what the status of a task means and where its fault is.
 ///
 /// The location is a heuristic: no contract says which one is reported. Regular files are read
@@ -23,6 +30,23 @@ pub fn explain_status<R: Files + Eprint + AllocGlobal>(rt: &R, status: Status, t
     if let Task::Run(run) = task {
         let _ = print_capture_location(rt, status, run.paths.input);
     }
+    if matches!(status, Status::TooLarge) {
+        let _ = eprintln!(rt; "{TOO_LARGE}");
+    }
+}
+
+/// Prints why rules of the ruleset at this path can't be met.
+pub fn explain_unmet<R: Eprint + AllocGlobal>(rt: &R, path: &str, unmet: &UnmetReasons) {
+    let _ = print_unmet(rt, path, unmet);
+}
+
+fn print_unmet<R: Eprint + AllocGlobal>(
+    rt: &R,
+    path: &str,
+    unmet: &UnmetReasons,
+) -> io::Result<()> {
+    let lines = unmet.lines(rt.alloc(), path)?;
+    eprint!(rt; "{}", lines.as_str())
 }
 
 /// The paths of the ruleset and the box of a task that has them.

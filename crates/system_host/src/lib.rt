@@ -6,6 +6,9 @@ mod closed_pipe;
 mod destination;
 mod diagnosis;
 mod reach_lines;
+mod set_texts;
 mod system;
+mod told;
+mod unmet_reasons;
 
 pub use system::start;

@@ -5,7 +5,10 @@ ghost use Rattle.system_host.specs.steps.Promised.{IsGuaranteed, held_by};
 use crate::analysis::analyze;
 use crate::closed_pipe::{PipeWriter, is_closed_pipe};
 use crate::destination::Destination;
-use crate::diagnosis::{explain_status, list_faults, remark_on_capture, warn_of_nft};
+use crate::diagnosis::{
+    explain_status, explain_unmet, list_faults, remark_on_capture, warn_of_nft,
+};
+use crate::unmet_reasons::UnmetReasons;
 use clap::Error;
 use command_line::{CheckPaths, ReplayPaths, Task};
 use engine::{Counts, RunFault};
@@ -35,6 +38,8 @@ struct System<'a, R> {
     failed: Option<Failed>,
     /// The text of the ruleset that was accepted last.
     accepted: Option<Vec<u8>>,
+    /// Why rules can't be met, by the last answer.
+    unmet: Option<UnmetReasons>,
 }
 
 /// Which of the outputs are terminals.
@@ -236,10 +241,11 @@ impl<'a, R: Clock + Env + Files + Print + Eprint + RandomSource + AllocGlobal> H
         self.keep("standard output", answer)
     }
 
-    fn reach(&mut self, rules: Vec<u8>, plant: &[u8]) -> Result<bool, ReachFault> {
+    fn reach(&mut self, rules: Vec<u8>, plant: &[u8], sets: bool) -> Result<bool, ReachFault> {
         let rt = self.rt;
-        let found = analyze(rt.alloc(), &rules, plant)?;
+        let found = analyze(rt.alloc(), &rules, plant, sets)?;
         let answer = io::writer(rt).write_all(&found.lines);
+        self.unmet = Some(found.unmet);
         self.keep("standard output", answer)?;
         Ok(found.is_met)
     }
@@ -251,8 +257,16 @@ impl<'a, R: Clock + Env + Files + Print + Eprint + RandomSource + AllocGlobal> H
 
     fn explain_status(&mut self, status: Status, task: &Task<'_>) {
         explain_status(self.rt, status, task);
-        if matches!(status, Status::Device) {
-            let _ = self.print_failure(task);
+        match status {
+            Status::Device => {
+                let _ = self.print_failure(task);
+            }
+            Status::Unmet => {
+                if let (Some(unmet), Task::Reach(reach)) = (&self.unmet, task) {
+                    explain_unmet(self.rt, reach.texts.rules, unmet);
+                }
+            }
+            _ => {}
         }
     }
 
@@ -306,6 +320,7 @@ pub fn start<R: Clock + Env + Files + Print + Eprint + RandomSource + AllocGloba
             size: None,
             failed: None,
             accepted: None,
+            unmet: None,
         },
     )
 }

@@ -34,7 +34,8 @@ GivesTask name f (Check task) =
     × GivesExplaining f (Some task.explaining)
     × (task.texts.rules.now ≡ value_at f (codes "rules")) × (task.texts.plant.now ≡ value_at f (codes "plant"))
 GivesTask name f (Reach task) =
-    (bytes_eq name (codes "check") ≡ false) × (bytes_eq name (codes "reach") ≡ true) × GivesExplaining f (Some task.explaining)
+    (bytes_eq name (codes "check") ≡ false) × (bytes_eq name (codes "reach") ≡ true) × Sets f (codes "sets") task.sets
+    × GivesExplaining f (Some task.explaining)
     × (task.texts.rules.now ≡ value_at f (codes "rules")) × (task.texts.plant.now ≡ value_at f (codes "plant"))
 GivesTask name f (Explain code) =
     (bytes_eq name (codes "check") ≡ false) × (bytes_eq name (codes "reach") ≡ false) × (bytes_eq name (codes "explain") ≡ true)

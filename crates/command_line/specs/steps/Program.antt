@@ -31,8 +31,8 @@ program_app = fold with_subcommand top_app (shape_with (codes "run") (path_rule 
     ∷ flag_rule (codes "no-explain") ∷ report_rule ∷ [])
     ∷ shape_with (codes "check") (path_rule (codes "rules") ∷ path_rule (codes "plant") ∷ flag_rule (codes "all")
     ∷ flag_rule (codes "explain") ∷ flag_rule (codes "no-explain") ∷ flag_rule (codes "nft") ∷ [])
-    ∷ shape_with (codes "reach") (path_rule (codes "rules") ∷ path_rule (codes "plant") ∷ flag_rule (codes "explain")
-    ∷ flag_rule (codes "no-explain") ∷ [])
+    ∷ shape_with (codes "reach") (path_rule (codes "rules") ∷ path_rule (codes "plant") ∷ flag_rule (codes "sets")
+    ∷ flag_rule (codes "explain") ∷ flag_rule (codes "no-explain") ∷ [])
     ∷ shape_with (codes "explain") (path_rule (codes "code") ∷ []) ∷ [])
 
 -- ---- the same, as the table of subcommands describes it

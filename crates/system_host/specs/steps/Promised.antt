@@ -30,5 +30,5 @@ IsGuaranteed remaining contents (run inputs before after answer) =
     (device contents before.output) (device contents after.output) report report' answer)
 IsGuaranteed remaining contents (judge rules box (Ok counts)) = Judged rules box counts
 IsGuaranteed remaining contents (judge rules box (Err fault)) = JudgeRefuses rules box fault
-IsGuaranteed remaining contents (reach rules box answer) = Answers rules box answer
+IsGuaranteed remaining contents (reach rules box sets answer) = Answers rules box answer
 IsGuaranteed _ _ _ = Unit {0}

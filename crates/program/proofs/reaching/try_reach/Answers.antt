@@ -22,14 +22,14 @@ pub returns-in_err-reach : goal.returns-in_err-reach
 returns-in_err-reach g c =
     let p = err_from_is_err_and c.from_residual-in_err-reach.result c.from_residual-in_err-reach.ensures.1 in
     rw p.1 (
-      read _ _ ∷ read _ _ ∷ reach _ _ _ ∷ [],
+      read _ _ ∷ read _ _ ∷ reach _ _ _ _ ∷ [],
       (_, c.in_ok-rules.ensures, (_, c.in_ok-plant.ensures, (_, c.in_err-reach.ensures, refl))),
-      (refl, (refl, (refl, c.deref.ensures.value, p.2))),
+      (refl, (refl, (refl, c.deref.ensures.value, refl, p.2))),
     )
 
 pub returns : goal.returns
 returns g c = (
-  read _ _ ∷ read _ _ ∷ reach _ _ _ ∷ [],
+  read _ _ ∷ read _ _ ∷ reach _ _ _ _ ∷ [],
   (_, c.in_ok-rules.ensures, (_, c.in_ok-plant.ensures, (_, c.in_ok-reach.ensures, refl))),
-  (refl, (refl, (refl, c.deref.ensures.value, refl))),
+  (refl, (refl, (refl, c.deref.ensures.value, refl, refl))),
 )

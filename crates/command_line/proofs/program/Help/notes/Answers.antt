@@ -11,4 +11,4 @@ pub returns-in-Check : goal.returns-in-Check
 returns-in-Check c = rw c.in-Check.is (record { before = codes "--nft warns of rulesets that are accepted. A path that begins with a hyphen goes\nafter --."; after = codes "\n  nftrun check rules.nft box.txt\n  nftrun check --nft rules.nft box.txt"; listed = refl })
 
 pub returns-in-Reach : goal.returns-in-Reach
-returns-in-Reach c = rw c.in-Reach.is (record { before = codes "Of each rule it tells whether some packet can meet it, and of each base chain\nwhether its policy can apply. A path that begins with a hyphen goes after --."; after = codes "\n  nftrun reach rules.nft box.txt\n  nftrun reach rules.nft box.txt | grep never"; listed = refl })
+returns-in-Reach c = rw c.in-Reach.is (record { before = codes "Of each rule it tells whether some packet can meet it, and which earlier rules\ntake the packets of one that none meets; of each base chain whether its policy\ncan apply. With --explain it tells why a rule can't be met, and where it is. A\npath that begins with a hyphen goes after --."; after = codes "\n  nftrun reach rules.nft box.txt\n  nftrun reach rules.nft box.txt | grep never\n  nftrun reach --sets rules.nft box.txt"; listed = refl })

@@ -1,0 +1,2 @@
+mod Indenting
+mod Sets
