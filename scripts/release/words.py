@@ -30,6 +30,7 @@ TOOLS = (
     Tool("fit", "fit-ruleset"),
     Tool("packet", "packet"),
     Tool("page", "page"),
+    Tool("reach-packets", "reach-packets"),
     Tool("report-to-json", "report-to-json"),
     Tool("start", "start"),
     Tool("why", "why"),

@@ -5,23 +5,21 @@ The facts of one draw need not come of any history: a run may never see them tog
 """
 from __future__ import annotations
 
-import copy
 import struct
-from dataclasses import dataclass, field
-from typing import AbstractSet, Dict, Set, Tuple
+from dataclasses import dataclass, field, replace
+from typing import AbstractSet, Iterator, Set
 
 from drawn import BOX, Drawing
-from reading import Chain, Head, Met, Rule, Table, Taken
+from reading import Chain, Head, Interface, Match, Met, Rule, Table, Taken
 from rows import datagram
-from tracking import ICMP, TCP, UDP, Belonging, Connection, Packet, Seen, State, Tracking
+from told_lines import Line, Where, bounds_of
+from tracking import ICMP, TCP, UDP, Belonging, Connection, Ends, Kind, Packet, Seen, State, Tracking
 
 # Filter chains on prerouting of this priority or below run before the lookup.
 RAW = -200
 ROUTED = ("forward", "postrouting")
 RUN = ("prerouting", "input", *ROUTED)
 KNOWN = (State.NEW, State.ESTABLISHED, State.RELATED)
-
-Where = Tuple[str, int]  # a chain's path, and the number of a rule
 
 
 @dataclass
@@ -31,10 +29,8 @@ class Reached:
     rules: Set[Where] = field(default_factory=set)
     met: Set[Where] = field(default_factory=set)
     ended: Set[str] = field(default_factory=set)
-    # Of rules, the numbers of those of their chain that took facts which would have met them as they came.
-    takers: Dict[Where, Set[int]] = field(default_factory=dict)
 
-    def add(self, other: Reached) -> None:
+    def take(self, other: Reached) -> None:
         """What others came to, too."""
         self.rules |= other.rules
         self.met |= other.met
@@ -74,19 +70,6 @@ class Watched(Rule):
         return None
 
 
-def would_meet(rule: Rule, where: Where, met: Met) -> bool:
-    """Whether facts meet the last statement of a rule, taken by itself."""
-    alone = Reached()
-    Watched(rule.statements, where, alone).verdict(copy.deepcopy(met))
-    return where in alone.met
-
-
-def takers(where: Where, came: AbstractSet[Where]) -> Set[int]:
-    """The rules of the chain to which facts came, and not to the next, before this one."""
-    path, number = where
-    return {it for it in range(1, number) if (path, it) in came and (path, it + 1) not in came}
-
-
 def watch(table: Table, reached: Reached) -> None:
     """Has each rule of the table note what comes to it."""
     for chain in table.chains.values():
@@ -94,62 +77,136 @@ def watch(table: Table, reached: Reached) -> None:
                        for number, rule in enumerate(chain.rules, 1)]
 
 
+@dataclass(frozen=True)
+class Facts:
+    """What rules may read of a packet, by the selectors; a connection where `state` has one. Where the protocol has no
+    ports, flags or types, these aren't read."""
+
+    protocol: int
+    source: int
+    destination: int
+    source_port: int
+    destination_port: int
+    flags: int
+    icmp_type: int
+    ttl: int
+    length: int
+    mark: int
+    input: Interface
+    output: Interface | None
+    state: State | None
+    is_reply: bool
+    status: int
+    ct_mark: int
+    is_untracked: bool = False
+
+    def packet(self) -> Packet:
+        ports = struct.pack(">HH", self.source_port, self.destination_port)
+        load = {
+            TCP: ports + struct.pack(">IIBBHHH", 1, 0, 0x50, self.flags, 1000, 0, 0),
+            UDP: ports + struct.pack(">HH", 8, 0),
+            ICMP: struct.pack(">BBHI", self.icmp_type, 0, 0, 0),
+        }.get(self.protocol, b"")
+        here, there = (address.to_bytes(4, "big") for address in (self.source, self.destination))
+        packet = Packet(datagram(self.protocol, here, there, load, self.ttl))
+        packet.length = self.length
+        return packet
+
+    def met(self) -> Met:
+        """The packet on its way, as it comes to a base chain."""
+        packet = self.packet()
+        met = Met(1, packet, self.input, Seen())
+        met.mark, met.output, met.is_untracked = self.mark, self.output, self.is_untracked
+        if self.state:
+            ends = packet.ends or Ends(Kind("other", self.protocol), packet.source, packet.destination)
+            of = Belonging(Connection(ends), self.is_reply) if self.state in KNOWN else None
+            met.ct = Told(self.state, of, self.ct_mark, self.status)
+        return met
+
+
+# Of selectors of numbers the fields that they read.
+FIELDS = {
+    "ip saddr": "source", "ip daddr": "destination", "ip protocol": "protocol", "meta l4proto": "protocol",
+    "tcp sport": "source_port", "udp sport": "source_port", "th sport": "source_port", "tcp dport": "destination_port",
+    "udp dport": "destination_port", "th dport": "destination_port", "icmp type": "icmp_type", "ip ttl": "ttl",
+    "ip length": "length", "meta mark": "mark", "ct mark": "ct_mark",
+}
+PROTOCOLS = {"tcp": (TCP,), "udp": (UDP,), "th": (TCP, UDP), "icmp": (ICMP,)}
+
+
 class FactsDrawing(Drawing):
     """Draws facts, of values that rules test."""
 
-    def packet(self) -> Packet:
-        """Any headers that may stand together."""
-        protocol = self.one(TCP, TCP, UDP, UDP, ICMP, self.number("inet_proto"))
-        here, there = (self.address().to_bytes(4, "big") for _ in "ab")
-        ports = struct.pack(">HH", self.port(), self.port())
-        load = {
-            TCP: ports + struct.pack(">IIBBHHH", 1, 0, 0x50, self.flags(), 1000, 0, 0),
-            UDP: ports + struct.pack(">HH", 8, 0),
-            ICMP: struct.pack(">BBHI", self.number("icmp_type"), 0, 0, 0),
-        }.get(protocol, b"")
-        packet = Packet(datagram(protocol, here, there, load, self.number("ip ttl")))
-        packet.length = self.number("ip length")
-        return packet
+    def drawn(self, head: Head) -> Facts:
+        """Facts with which a packet can come to a base chain."""
+        is_early = head.hook == "prerouting" and head.kind == "filter" and head.priority <= RAW
+        state = None if is_early else State.NEW if head.kind == "nat" else self.one(*State)
+        return Facts(
+            self.one(TCP, TCP, UDP, UDP, ICMP, self.number("inet_proto")), self.address(), self.address(),
+            self.port(), self.port(), self.flags(), self.number("icmp_type"), self.number("ip ttl"),
+            self.number("ip length"), self.number("mark"), self.one(*BOX.interfaces.values()),
+            self.one(*BOX.interfaces.values()) if head.hook in ROUTED else None, state, self.chance(50),
+            sum(self.one(0, bit) for bit in (2, 16, 32)), self.number("mark"), is_early and self.chance(20))
 
-    def tracking(self, packet: Packet, is_first: bool) -> Tracking:
-        """Behind the lookup: the state alone, or a connection."""
-        state = State.NEW if is_first else self.one(*State)
-        of = Belonging(Connection(packet.ends), self.chance(50)) if state in KNOWN and packet.ends else None
-        if state in KNOWN and not of:
-            state = State.INVALID
-        status = sum(self.one(0, bit) for bit in (2, 16, 32))
-        return Told(state, of, self.number("mark"), status)
+    def like(self, line: Line, head: Head) -> Facts:
+        """Facts of a line, as far as its matches are taken one by one; one of them is missed often, just beside a
+        bound."""
+        facts = self.drawn(head)
+        missed = self.one(*line) if line and self.chance(40) else None
+        for match in line:
+            facts = self.with_match(facts, match, match is missed)
+        # chains of type nat see first packets alone
+        return replace(facts, state=State.NEW) if head.kind == "nat" else facts
 
-    def facts(self, head: Head) -> Met | None:
-        """Those of a packet that comes to a base chain; None of one that can't."""
-        packet = self.packet()
-        if head.kind == "nat" and not packet.ends:
-            return None
-        met = Met(1, packet, self.one(*BOX.interfaces.values()), Seen())
-        met.mark = self.number("mark")
-        met.output = self.one(*BOX.interfaces.values()) if head.hook in ROUTED else None
-        if head.hook == "prerouting" and head.kind == "filter" and head.priority <= RAW:
-            met.is_untracked = self.chance(20)
-        else:
-            met.ct = self.tracking(packet, head.kind == "nat")
-        return met
+    def with_match(self, facts: Facts, match: Match, is_missed: bool) -> Facts:
+        """The facts, with a value that the match has at a bound or that lies beside one, or one of all words."""
+        (selector,) = match.selectors
+        family = selector.split(" ")[0]
+        if family in PROTOCOLS and not (is_missed and self.chance(20)):
+            facts = replace(facts, protocol=self.one(*PROTOCOLS[family]))
+        choices = [replace(facts, **{FIELDS[selector]: number}) for number in bounds_of(match)] \
+            if selector in FIELDS else list(self.others(facts, selector))
+        fitting = [one for one in choices if bool(match.take(one.met())) != is_missed]
+        return self.one(*fitting) if fitting else facts
 
-    def come_to(self, table: Table, chain: Chain, reached: Reached, unmet: AbstractSet[Where]) -> None:
-        """One draw through a base chain of a table; of these rules, who takes it where they would meet it."""
-        assert chain.head is not None
-        met = self.facts(chain.head)
-        if not met:
-            return
-        first, way = copy.deepcopy(met), Reached()
-        watch(table, way)
-        if not chain.run(table, met):
-            way.ended.add(chain.path)
-        reached.add(way)
-        for each in table.chains.values():
-            for number, rule in enumerate(each.rules, 1):
-                where = each.path, number
-                if where in unmet and (each.path, 1) in way.rules and would_meet(rule, where, first):
-                    reached.takers.setdefault(where, set()).update(takers(where, way.rules))
+    def others(self, facts: Facts, selector: str) -> Iterator[Facts]:
+        """The facts with each of the values of a selector that has words alone."""
+        interfaces = BOX.interfaces.values()
+        if selector in ("iif", "iifname"):
+            yield from (replace(facts, input=one) for one in interfaces)
+        elif selector in ("oif", "oifname") and facts.output:
+            yield from (replace(facts, output=one) for one in interfaces)
+        elif selector == "ct state" and facts.state:
+            yield from (replace(facts, state=one) for one in State)
+        elif selector == "ct direction":
+            yield from (replace(facts, is_reply=one) for one in (False, True))
+        elif selector == "ct status":
+            yield from (replace(facts, status=facts.status ^ bit) for bit in (0, 2, 16, 32))
+        elif selector == "tcp flags":
+            yield from (replace(facts, flags=facts.flags ^ bit) for bit in (0, *(1 << place for place in range(8))))
+            yield from (replace(facts, flags=flags) for flags in range(256))
+
+
+def would_meet(rule: Rule, where: Where, facts: Facts) -> bool:
+    """Whether facts meet the last statement of a rule, taken by itself."""
+    alone = Reached()
+    Watched(rule.statements, where, alone).verdict(facts.met())
+    return where in alone.met
+
+
+def takers(where: Where, came: AbstractSet[Where]) -> set[int]:
+    """The rules of the chain to which facts came, and not to the next, before this one."""
+    path, number = where
+    return {it for it in range(1, number) if (path, it) in came and (path, it + 1) not in came}
+
+
+def come_to(table: Table, chain: Chain, facts: Facts, reached: Reached) -> None:
+    """Takes the facts through a base chain of a watched table, which notes in `reached` what they come to."""
+    reached.rules.clear()
+    reached.met.clear()
+    reached.ended.clear()
+    if not chain.run(table, facts.met()):
+        reached.ended.add(chain.path)
 
 
 def base_chains(table: Table) -> list[Chain]:

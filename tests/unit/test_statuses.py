@@ -15,12 +15,13 @@ from support import TOP
 STATUSES = {
     "align": {0, 1, 2, 7}, "annotate": {0, 1, 2, 7}, "beside-copies": {0, 1, 2, 7}, "beside-linux": {0, 1, 2, 3},
     "box-from-ip": {0, 2}, "compare": {0, 1, 2, 7}, "convert": {0, 2, 7}, "doctor": {0, 1, 2}, "fit": {0, 1, 2},
-    "packet": {0, 2}, "page": {0, 2, 7}, "report-to-json": {0, 2, 7}, "start": {0, 1, 2, 7}, "why": {0, 1, 2, 7}}
+    "packet": {0, 2}, "page": {0, 2, 7}, "reach-packets": {0, 2, 10}, "report-to-json": {0, 2, 7},
+    "start": {0, 1, 2, 7}, "why": {0, 1, 2, 7}}
 FILES = {"compare": "compare-rulesets", "fit": "fit-ruleset"}
 CASES = TOP / "tests/tools"
 README = (TOP / "tools/README.md").read_text(encoding="utf-8")
-# a digit that stands for a status: behind it comes what it means
-MEANT = re.compile(r"(?<![\w.-])([0-9])(?=[ .;:,\n])")
+# a number that stands for a status: behind it comes what it means
+MEANT = re.compile(r"(?<![\w.-])(10|[0-9])(?=[ .;:,\n])")
 OWN_PLACES = ("totals", "ports", "fails", "by_host")  # objects whose fields are names of other things
 
 
@@ -58,7 +59,7 @@ class Statuses(unittest.TestCase):
             self.assertEqual(set(map(int, MEANT.findall(text))), statuses, word)
 
     def test_readme(self) -> None:
-        rows = re.findall(r"(?m)^\| ([0-9]) \| (.*) \| (.*) \|$", README[README.index("## Statuses"):])
+        rows = re.findall(r"(?m)^\| ([0-9]{1,2}) \| (.*) \| (.*) \|$", README[README.index("## Statuses"):])
         told = {int(status): set(STATUSES) if of == "all" else set(re.findall(r"`([a-z-]+)`", of)) & set(STATUSES)
                 for status, _, of in rows}
         told[7] -= {"doctor"}  # has it among what misleads

@@ -11,6 +11,8 @@ from trials.trial import Trial, run
 from release.words import PROGRAM_WORDS, TOOLS
 
 WORDS = (*PROGRAM_WORDS, *(tool.word for tool in TOOLS))
+# Options of a word of the program with which a command takes its place.
+OF_COMMANDS = {"reach": {"--packets"}}
 NEVER = "--no-such-option"
 # More arguments than any word wants: no file has this name, and nothing is run, since NEVER is refused.
 FILES = ("1", "1", "1", "1")
@@ -70,7 +72,7 @@ def test_options(trial: Trial, it: Installed) -> dict[str, set[str]]:
     for word, one in told.items():
         trial.expect(run([it.front, "help", word]).status == 0, f"nftrun help {word} fails")
         named = {option.name: option for option in one.options if option.name != "--help"}
-        found[word] = taken(it.front, word, candidates, set(named))
+        found[word] = taken(it.front, word, candidates - OF_COMMANDS.get(word, set()), set(named))
         trial.same(f"nftrun {word} --help", found[word], set(named))
         for name in sorted(found[word] & set(named)):
             right = takes_value(it.front, word, name) == bool(named[name].takes)
