@@ -1,5 +1,5 @@
 //! The packets of sets, as matches of nft(8), below the lines that tell what can be met.
-ghost use Rattle.std.specs.Prelude.{All, IfOk, OnOk};
+ghost use Rattle.std.specs.Prelude.{◌≡◌, All, IfOk, OnOk};
 ghost use Rattle.packet_sets.specs.Sets.{DiagramsView, IsSet};
 ghost use Rattle.system_host.specs.steps.SetTexts.{HasSets, IsOfSets};
 ghost use Rattle.system_host.specs.steps.Told.{AreBelow, AreIndented};
