@@ -1,6 +1,5 @@
 //! Explains a status and locates its fault.
 use crate::destination::Destination;
-use crate::unmet_reasons::UnmetReasons;
 use box_file::Plant;
 use capture_remarks::{Fullness, SecondRun, Texts, capture_location, remarks, table_remarks};
 use command_line::{ReplayPaths, Task};
@@ -8,6 +7,7 @@ use engine::RulesFault;
 use fault_advice::explained;
 use fault_location::{Fault, SourcePaths, Sources, all_faults};
 use program::Status;
+use reach_report::UnmetReasons;
 use std::hash::RandomState;
 use std::random::RandomSource;
 use std::rt::Files;

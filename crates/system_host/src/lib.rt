@@ -5,10 +5,6 @@ mod analysis;
 mod closed_pipe;
 mod destination;
 mod diagnosis;
-mod reach_lines;
-mod set_texts;
 mod system;
-mod told;
-mod unmet_reasons;
 
 pub use system::start;

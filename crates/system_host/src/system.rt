@@ -8,7 +8,6 @@ use crate::destination::Destination;
 use crate::diagnosis::{
     explain_status, explain_unmet, list_faults, remark_on_capture, warn_of_nft,
 };
-use crate::unmet_reasons::UnmetReasons;
 use clap::Error;
 use command_line::{CheckPaths, ReplayPaths, Task};
 use engine::{Counts, RunFault};
@@ -18,6 +17,7 @@ use program::{
     FileIdentity, Host, Progress, ProgressLine, ProgressReader, ReachFault, RunFiles, RunInputs,
     Status, perform, run_with_progress,
 };
+use reach_report::UnmetReasons;
 use std::env::{self, Env};
 use std::fs::OpenFile;
 use std::hash::RandomState;

@@ -1,0 +1,4 @@
+pub mod ReachLines
+pub mod Told
+pub mod Reports
+pub mod steps

@@ -1,0 +1,2 @@
+-- What contracts of private functions cite; public ones cite none of it.
+pub mod SetTexts
