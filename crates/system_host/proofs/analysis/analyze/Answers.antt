@@ -25,6 +25,6 @@ returns-in-Ok-clause-told c = record {
   tells = c.in-Ok.ensures;
 }
 
-pub returns-in-Err-clause-refused : goal.returns-in-Err-clause-refused
-returns-in-Err-clause-refused c = rw c.fault_of.ensures
+pub returns-clause-refused : goal.returns-clause-refused
+returns-clause-refused c = rw c.fault_of.ensures
     (unanswered _ _ c.in-Err.error (accepted_by _ _ c.in_ok-checked.checked c.in_ok-checked.ensures.fine))
