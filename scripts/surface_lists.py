@@ -238,7 +238,7 @@ def row_found(tree: Tree, entry: Entry) -> Found:
 INTRODUCTION = (
     "Written by `scripts/surface` from the lists in `docs/surface` and the crates; the gate compares it, and fails "
     "where a call, an edit or a row of the lists is missing. `Global` is where a value lies that a call makes. What "
-    "is otherwise than a caller might expect, and why, stands in [DECISIONS.md](../DECISIONS.md)."
+    "is otherwise than a caller might expect, and why, stands in [EXPECTED.md](EXPECTED.md)."
 )
 SECTIONS = (
     ("calls.txt", "Calls", "Grouped as a caller meets them. `scripts/contracts CRATE` prints what each promises.",

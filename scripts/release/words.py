@@ -5,7 +5,7 @@ import ast
 from dataclasses import dataclass
 from pathlib import Path
 
-PROGRAM_WORDS = ("check", "explain", "reach", "run")
+PROGRAM_WORDS = ("check", "diff", "explain", "reach", "run")
 # What a command reads of the folders of its modules, beside these.
 DATA = (".css", ".html", ".js", ".awk", ".json")
 
@@ -26,6 +26,7 @@ TOOLS = (
     Tool("box-from-ip", "box-from-ip"),
     Tool("compare", "compare-rulesets"),
     Tool("convert", "convert"),
+    Tool("diff-packets", "diff-packets"),
     Tool("doctor", "doctor"),
     Tool("fit", "fit-ruleset"),
     Tool("packet", "packet"),

@@ -11,7 +11,7 @@ from typing import Iterable, Mapping, Sequence
 # stands between those of which each may come, `+` behind what is made once or more, `?` behind what is made on a
 # terminal alone. The words are in memory, and a ruleset is judged there.
 SYSTEM = (
-    ("words|judge .+|reach .+ in vain", ""),
+    ("words|judge .+|(?:reach|diff) .+ in vain", ""),
     ("read (.+)", r"open \1, read \1+"),
     ("open (.+)", r"open \1, size \1?"),
     ("identify (.+)", r"stat \1"),
@@ -19,7 +19,7 @@ SYSTEM = (
     ("create (.+)", r"create \1"),
     ("run .+ to a file.*", "read in|write out|write file+"),
     ("run .+", "read in|write out|write 1+"),
-    ("announce .+|reach .+|show .+|explain help", "write 1+"),
+    ("announce .+|(?:reach|diff) .+|show .+|explain help", "write 1+"),
     ("tell .+|explain usage: .+|warn of .+", "write 2+"),
     ("clarify check .+|list faults", "stat rules, open rules, read rules+, stat box, open box, read box+, write 2+"),
     ("clarify run .+", "stat in, open in, read in+, write 2+"),

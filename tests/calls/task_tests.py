@@ -49,7 +49,7 @@ class TaskTests(Judge):
         self.name = f"nftrun {line.question}".strip()
         kind, _, rest = line.answer.partition(" ")
         tasks = {"error:": self.try_refused, "prints": self.try_printed, "explain": self.try_code,
-                 "check": self.try_check, "reach": self.try_reach, "run": self.try_run}
+                 "check": self.try_check, "reach": self.try_reach, "diff": self.try_diff, "run": self.try_run}
         tasks[kind](line.question.split(), rest)
 
     def try_refused(self, words: Sequence[str], text: str) -> None:
@@ -96,6 +96,19 @@ class TaskTests(Judge):
         refused = Printed(1, "", "nftrun: rules N06\n")
         end = ["reach rules box in vain", "tell nftrun: rules N06"]
         self.check(words, paths, self.data.refused, refused, [*begin, *end])
+
+    def try_diff(self, words: Sequence[str], task: str) -> None:
+        """Refuses each of the rulesets that are compared, as its file is named in the usage."""
+        listed, _, file = task.partition(" assuming ")
+        paths = dict(zip(("old", "new", "box", "filter"), [*listed.split(), *([file] if file else [])]))
+        begin = ["words", *(f"read {name}" for name in paths)]
+        for name in (it for it in paths if it != "box"):
+            texts = {path: self.data.refused if it == name else self.data.accepted for it, path in paths.items()}
+            self.sandbox.fill({**texts, paths["box"]: self.data.box})
+            given = self.sandbox.call(words)
+            line = f"nftrun: rules N06 in {name.upper()}"
+            self.equal("the answer", Printed(1, "", f"{line}\n"), Printed(given.status, given.printed, given.errors))
+            self.compare_notes([*begin, "diff old new box in vain", f"tell {line}"], given, paths)
 
     def check(self, words: Sequence[str], paths: dict[str, str], text: bytes, answer: Printed,
               wanted: Sequence[str]) -> None:

@@ -160,11 +160,40 @@ class WrittenChain:
 
 
 @dataclass(frozen=True)
-class WrittenTable:
-    """A table and its text."""
+class Declared:
+    """A set or a map that a table declares: what its line begins with, its lines, and the texts of its elements."""
 
-    table: Table
-    text: str
+    head: str
+    lines: Sequence[str]
+    texts: Sequence[str]
+
+    @property
+    def text(self) -> str:
+        return block(self.head, self.lines)
+
+    def with_texts(self, texts: Sequence[str]) -> Declared:
+        """With other elements."""
+        lines = [line for line in self.lines if not line.startswith("elements ")]
+        return Declared(self.head, [*lines, *([elements_line(texts)] if texts else [])], texts)
+
+
+@dataclass(frozen=True)
+class WrittenTable:
+    """A table: its chains and what it declares, in the order of its text."""
+
+    family: str
+    name: str
+    chains: Sequence[WrittenChain]
+    declared: Sequence[Declared]
+
+    @property
+    def table(self) -> Table:
+        return Table(self.family, self.name, [one.chain for one in self.chains])
+
+    @property
+    def text(self) -> str:
+        texts = [*map(chain_text, self.chains), *(one.text for one in self.declared)]
+        return "\n".join([f"table {self.family} {self.name} {{", *texts, "}\n"])
 
 
 def dotted(address: int) -> str:
@@ -310,7 +339,7 @@ class TableDrawing(Drawing):
         self.words: dict[str, Kinds] = {}
         self.sets: dict[Kinds, list[Set]] = {}
         self.maps: dict[tuple[str, Kinds], list[Map]] = {}
-        self.declared: list[str] = []
+        self.declared: list[Declared] = []
         # What the chains without a hook cost, by their names: the last is drawn first, and jumps lead to later ones.
         self.costs: dict[str, int] = {}
 
@@ -329,9 +358,9 @@ class TableDrawing(Drawing):
         if any("-" in text or "/" in text for text in texts) and self.chance(50):
             lines.append("flags interval")
         if texts:
-            lines.append("elements = { " + ", ".join(texts) + self.one("", ",") + " }")
+            lines.append(elements_line(texts, self.one("", ",")))
         self.dice.shuffle(lines)
-        self.declared.append(block(f"{'map' if data else 'set'} {name}", lines))
+        self.declared.append(Declared(f"{'map' if data else 'set'} {name}", lines, texts))
 
     def named_set(self, kinds: Kinds) -> Set:
         """A set of these types, which other rules may ask for."""
@@ -681,16 +710,17 @@ class TableDrawing(Drawing):
         bases += [None] * (2 + self.below(3) - len(bases))
         drawn += [self.base_chain(number, later, base or self.base()) for number, base in enumerate(bases, 1)]
         self.dice.shuffle(drawn)
-        family = self.one("ip", "inet")
-        texts = [chain_text(one) for one in drawn] + self.declared
-        text = "\n".join([f"table {family} {self.name} {{", *texts, "}\n"])
-        return WrittenTable(Table(family, self.name, [one.chain for one in drawn]), text)
+        return WrittenTable(self.one("ip", "inet"), self.name, drawn, self.declared)
 
 
 def chain_text(one: WrittenChain) -> str:
     lines = [one.head] if one.head else []
     lines += [" ".join(statement.text for statement in rule.statements) for rule in one.chain.rules]
     return block(f"chain {one.chain.name}", lines)
+
+
+def elements_line(texts: Sequence[str], end: str = "") -> str:
+    return "elements = { " + ", ".join(texts) + end + " }"
 
 
 def block(head: str, lines: Sequence[str]) -> str:

@@ -20,6 +20,7 @@ RAW = -200
 ROUTED = ("forward", "postrouting")
 RUN = ("prerouting", "input", *ROUTED)
 KNOWN = (State.NEW, State.ESTABLISHED, State.RELATED)
+LEAST_LENGTH = 20  # of an IPv4 packet: its header
 
 
 @dataclass
@@ -166,7 +167,8 @@ class FactsDrawing(Drawing):
             facts = replace(facts, protocol=self.one(*PROTOCOLS[family]))
         choices = [replace(facts, **{FIELDS[selector]: number}) for number in bounds_of(match)] \
             if selector in FIELDS else list(self.others(facts, selector))
-        fitting = [one for one in choices if bool(match.take(one.met())) != is_missed]
+        fitting = [one for one in choices
+                   if one.length >= LEAST_LENGTH and bool(match.take(one.met())) != is_missed]
         return self.one(*fitting) if fitting else facts
 
     def others(self, facts: Facts, selector: str) -> Iterator[Facts]:

@@ -69,6 +69,8 @@ TESTS = (
     Test("limits", "limits/test-limits", Place.PROGRAMS, "each limit and one past; sizes that users have"),
     Test("random", "random/test-random", Place.PROGRAMS, "random rulesets beside a plain reading (--seeds N: one)"),
     Test("reach", "random/test-reach", Place.PROGRAMS, "which rules packets can meet, beside random facts (--seeds N)"),
+    Test("diff", "random/test-diff", Place.PROGRAMS, "pairs of random rulesets, beside random facts (--seeds N)"),
+    Test("same", "random/test-same", Place.PROGRAMS, "pairs of rulesets by hand, many the same (--only TEXT: these)"),
     Test("examples", "test-examples", Place.PROGRAMS, "the reports and captures of examples/"),
     Test("explain", "test-explain", Place.PROGRAMS, "what --explain prints of examples/check"),
     Test("progress", "test-progress", Place.PROGRAMS, "the progress that a terminal shows"),

@@ -6,7 +6,8 @@ from unittest import mock
 
 from support import FilesCase
 from linux.hits import RuleHits, counted, counted_copy, hit_lines, hits_of
-from toolbox.reach import Answers, Meeting, NoAnswer, RuleAnswer
+from toolbox.answering import NoAnswer
+from toolbox.reach import Answers, Meeting, RuleAnswer
 from toolbox.reports import Decision, RuleCounter
 from toolbox.rulesets import Ruleset
 

@@ -9,10 +9,13 @@ from support import TOP
 sys.path[:0] = [str(TOP / "tools/html")]
 
 from pages.aligned import Alignment, Mark, version  # noqa: E402
+from pages.classes import classes_html  # noqa: E402
 from pages.drops import ticks  # noqa: E402
 from pages.texts import seconds_text  # noqa: E402
 from pages.verdict import verdict  # noqa: E402
-from toolbox.differences import BLOCKED, OPENED, OTHERWISE, REWRITTEN  # noqa: E402
+from toolbox.diffed import Outcome, PacketClass  # noqa: E402
+from toolbox.differences import BLOCKED, OPENED, OTHERWISE, REWRITTEN, Told  # noqa: E402
+from toolbox.every_packet import EveryPacket, ToldClass  # noqa: E402
 from toolbox.evidence import changes_of  # noqa: E402
 from toolbox.guard import Seen, Unmet  # noqa: E402
 from toolbox.router import Uncompared  # noqa: E402
@@ -149,6 +152,47 @@ class Verdicts(unittest.TestCase):
         for doubt in (seen(unmet=1), seen(untold=1), seen(is_torn=True)):
             self.assertEqual(verdict(doubt, {}, []).tone, "unknown")
         self.assertEqual(verdict(seen(), {}, ["new.nft"]).tone, "unknown")
+
+    def test_what_is_known_of_all_packets(self) -> None:
+        same, differs, unknown = EveryPacket(), EveryPacket((CLASS,)), EveryPacket(unknown="nftrun diff: too large")
+        told = verdict(seen(nothing="no record reached a rule", unmet=2), {}, [], same)
+        self.assertEqual((told.text, told.tone), (
+            "The new ruleset does the same as the old one with every packet.", "same"))
+        told = verdict(seen(unmet=2), {}, [], differs)
+        self.assertEqual((told.text, told.tone), (
+            "Nothing differs in this capture; 2 changes were met by no packet; of all packets 1 class differs.",
+            "unknown"))
+        self.assertEqual(verdict(seen(), {}, [], differs).tone, "unknown")
+        self.assertEqual(verdict(seen(unmet=2), {}, [], unknown), verdict(seen(unmet=2), {}, []))
+
+
+CLASS = ToldClass(
+    PacketClass("forward", Outcome("drop", "ip f <b>"), Outcome("accept", "ip f <b>", 2, ("meta mark 5",)),
+                tuple(f'iifname "<i>" tcp dport {port}' for port in range(7)), 3),
+    Told("ip f <b>", None, "drop", "policy", "old.nft", 4), Told("ip f <b>", 2, "accept", "a <u> accept", "new.nft", 9))
+
+
+class Classes(unittest.TestCase):
+    def test_each_class(self) -> None:
+        html = classes_html(EveryPacket((CLASS,)))
+        for part in ("1 class differs", "<dt>at</dt><dd>forward</dd>", '<a href="#O4">line 4</a>',
+                     ' with meta mark 5 <a href="#N9">line 9</a>', "<code>a &lt;u&gt; accept</code>",
+                     "<li><code>at least 5 more</code></li>"):
+            self.assertIn(part, html)
+        self.assertEqual((html.count("<li>"), html.count("<b>"), html.count("lists more")), (6, 0, 0))
+
+    def test_many(self) -> None:
+        html = classes_html(EveryPacket((CLASS,) * 30, 4))
+        self.assertEqual(html.count("<article"), 20)
+        self.assertIn("more than 30 classes differ", html)
+        self.assertIn("The first 20 classes are listed; <code>nftrun diff</code> lists more.", html)
+
+    def test_without_a_class(self) -> None:
+        self.assertEqual(classes_html(None), "")
+        self.assertEqual(classes_html(EveryPacket()),
+                         '<p class="same" id="every">The same for every packet: no capture is needed to know that.</p>')
+        self.assertEqual(classes_html(EveryPacket(unknown="<i>")),
+                         '<p class="bound" id="every">Nothing is known of all packets: &lt;i&gt;.</p>')
 
 
 class Axis(unittest.TestCase):

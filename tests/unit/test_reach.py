@@ -10,9 +10,10 @@ from unittest import mock
 
 import support
 from support import BOX, FilesCase
+from toolbox.answering import NoAnswer
 from toolbox.boxes import Box
 from toolbox.could_meet import COULD, MOST_SECONDS, CouldMeet, add_option, could_meet
-from toolbox.reach import Answers, Applying, Meeting, NoAnswer, RuleAnswer, answers_of, ask
+from toolbox.reach import Answers, Applying, Meeting, RuleAnswer, answers_of, ask
 from toolbox.rulesets import Ruleset
 
 sys.path[:0] = [str(support.TOP / "tools/html")]
@@ -90,10 +91,10 @@ class Asked(FilesCase):
     def test_no_answer(self) -> None:
         path = str(self.folder / "program")
         self.assertEqual(self.asked("echo error: unrecognized subcommand >&2", "echo usage >&2", "exit 2"),
-                         NoAnswer(f"{path} has no `reach` (error: unrecognized subcommand)", was_asked=False))
+                         NoAnswer(f"{path} has no `reach` (error: unrecognized subcommand)", was_asked=False, status=2))
         self.assertEqual(self.asked("echo nftrun: too large >&2", "exit 9"),
-                         NoAnswer("nftrun reach: too large", is_too_large=True))
-        self.assertEqual(self.asked("exit 6"), NoAnswer("nftrun reach: status 6"))
+                         NoAnswer("nftrun reach: too large", status=9))
+        self.assertEqual(self.asked("exit 6"), NoAnswer("nftrun reach: status 6", status=6))
         self.assertEqual(self.asked("echo nonsense"), NoAnswer("nftrun reach: a line that can't be read: nonsense"))
         self.assertEqual(self.asked("exec sleep 30", seconds=1), NoAnswer("nftrun reach took over 1 s"))
         self.assertEqual(ask(f"{path}.gone", "rules", "box"),

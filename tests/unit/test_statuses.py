@@ -14,9 +14,9 @@ from support import TOP
 # by the word behind nftrun; the file in tools/ has the same name but for two
 STATUSES = {
     "align": {0, 1, 2, 7}, "annotate": {0, 1, 2, 7}, "beside-copies": {0, 1, 2, 7}, "beside-linux": {0, 1, 2, 3},
-    "box-from-ip": {0, 2}, "compare": {0, 1, 2, 7}, "convert": {0, 2, 7}, "doctor": {0, 1, 2}, "fit": {0, 1, 2},
-    "packet": {0, 2}, "page": {0, 2, 7}, "reach-packets": {0, 2, 10}, "report-to-json": {0, 2, 7},
-    "start": {0, 1, 2, 7}, "why": {0, 1, 2, 7}}
+    "box-from-ip": {0, 2}, "compare": {0, 1, 2, 7}, "convert": {0, 2, 7}, "diff-packets": {0, 2, 10},
+    "doctor": {0, 1, 2}, "fit": {0, 1, 2}, "packet": {0, 2}, "page": {0, 2, 7}, "reach-packets": {0, 2, 10},
+    "report-to-json": {0, 2, 7}, "start": {0, 1, 2, 7}, "why": {0, 1, 2, 7}}
 FILES = {"compare": "compare-rulesets", "fit": "fit-ruleset"}
 CASES = TOP / "tests/tools"
 README = (TOP / "tools/README.md").read_text(encoding="utf-8")

@@ -6,9 +6,10 @@ from dataclasses import dataclass
 from typing import TYPE_CHECKING, Iterable, Iterator, Mapping, Sequence
 
 from linux.telling import end_of_statements
+from toolbox.answering import NoAnswer
 from toolbox.commands import read_text
 from toolbox.language import NFT
-from toolbox.reach import Answers, Meeting, NoAnswer, RulePlace
+from toolbox.reach import Answers, Meeting, RulePlace
 from toolbox.rulesets import TRANSLATIONS, Ruleset, statement_tokens
 
 if TYPE_CHECKING:

@@ -11,9 +11,10 @@ from toolbox.guard import Kind
 
 if TYPE_CHECKING:
     from toolbox.differences import Group, Told
+    from toolbox.every_packet import EveryPacket
     from toolbox.guard import Guard, Judged, Seen
 
-MOST_PORTS = 5
+MOST_PORTS, MOST_CLASSES, MOST_SETS = 5, 10, 5
 SCHEMA = "https://json.schemastore.org/sarif-2.1.0.json"
 MEANS = {
     Kind.OPENED: "OLD drops it, and NEW lets it through",
@@ -22,6 +23,7 @@ MEANS = {
     Kind.OTHERWISE: "both drop it, for another cause",
     Kind.PORTS: "it leaves by the same rules with other ports",
     Kind.UNMET: "a change that no packet met",
+    Kind.CLASS: "packets with which the rulesets differ, whatever is captured",
 }
 
 
@@ -57,19 +59,39 @@ def finding_of(seen: Seen, one: Judged, rules: str) -> Finding:
     """A group at the rule of NEW that decides, or where none does, at that of OLD, if this stands in a file that is
     there; else it is of NEW as a whole."""
     group = one.group
-    place = next((told for told in (group.new, group.old) if told.line and ":" not in (told.file or "")), None)
-    file, line = (place.file, place.line) if place else (rules, None)
+    file, line = place_of(group.old, group.new, rules)
     level = "error" if one.fails else "notice" if one.accepted else "warning"
     return Finding(one.kind, level, text_of(seen, group), file, line, one.accepted.place if one.accepted else None)
 
 
+def place_of(old: Told, new: Told, rules: str) -> tuple[str | None, int | None]:
+    """The file and the line of a change."""
+    place = next((told for told in (new, old) if told.line and ":" not in (told.file or "")), None)
+    return (place.file, place.line) if place else (rules, None)
+
+
+def class_findings(known: EveryPacket, fails: bool, rules: str) -> Iterator[Finding]:
+    """What is known of all packets: the first classes, each at its rule, or in a line."""
+    level = "error" if fails else "notice"
+    if not known.classes:
+        yield Finding(None, "error" if fails and not known.is_same else "notice", known.text(), None, None)
+    for one in known.classes[:MOST_CLASSES]:
+        text = f"{one.text}: {'; '.join(one.packets(MOST_SETS))}"
+        yield Finding(Kind.CLASS, level, text, *place_of(one.old, one.new, rules))
+    if len(known.classes) > MOST_CLASSES:
+        yield Finding(None, "notice", f"{known.text()}; nftrun diff lists them", None, None)
+
+
 def findings(guard: Guard, rules: str) -> Iterator[Finding]:
     """All that is to be told, what is of the whole first. `rules` is NEW."""
+    if guard.every:
+        yield from class_findings(guard.every, Kind.CLASS in guard.kinds, rules)
+    level = "notice" if guard.is_same else "error"
     for line in guard.nothing():
-        yield Finding(None, "error", f"nothing was compared: {line}", None, None)
+        yield Finding(None, level, f"nothing was compared: {line}", None, None)
     for seen in guard.seen:
         for line in (*seen.router, *([seen.not_compared.text()] if seen.not_compared else [])):
-            yield Finding(None, "error", f"{seen.capture}: {line}", None, None)
+            yield Finding(None, level, f"{seen.capture}: {line}", None, None)
         if seen.is_torn:
             text = f"{seen.capture}: torn: it ends within record {seen.records + 1}"
             yield Finding(None, "warning", text, None, None)

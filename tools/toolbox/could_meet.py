@@ -5,10 +5,11 @@ import argparse
 from dataclasses import dataclass
 from typing import TYPE_CHECKING, Mapping
 
+from toolbox.answering import NoAnswer
 from toolbox.commands import Refused, say
 from toolbox.never_met import OWN_PACKETS, never_met
 from toolbox.program import find_program
-from toolbox.reach import SECONDS, Answers, Meeting, NoAnswer, RulePlace, ask
+from toolbox.reach import SECONDS, Answers, Meeting, RulePlace, ask
 
 if TYPE_CHECKING:
     from toolbox.boxes import Box

@@ -20,6 +20,7 @@ if TYPE_CHECKING:
     from toolbox.flows import Flows
     from toolbox.replay import Replay
     from toolbox.rulemap import RuleMap
+    from toolbox.rulesets import Ruleset
 
 OPENED, BLOCKED, REWRITTEN, OTHERWISE = "opened", "blocked", "rewritten only", "dropped otherwise"
 
@@ -85,16 +86,22 @@ class Sight:
 
     def of_rule(self, one: Decision) -> Told:
         """A decision as the operator's text has it."""
-        origin = self.origins and self.origins.origin(one.chain, one.rule)
-        if origin:
-            return Told(origin.chain, origin.rule, one.verdict, origin.text, origin.file, origin.line)
-        text, line = self.ruleset.text_of(one.chain, one.rule), self.ruleset.line_of(one.chain, one.rule)
-        return Told(one.chain, one.rule, one.verdict, text, self.name, line)
+        return told_of(one, self.ruleset, self.origins, self.name)
 
     def decisions(self, wanted: array[int]) -> Iterator[tuple[tuple[bytes, ...], str]]:
         """Of each wanted record in order its events, and how it ended."""
         for record, events in zip(wanted, events_of_some(self.replay.files.report, wanted)):
             yield tuple(events), self.replay.outcome(record)
+
+
+def told_of(one: Decision, ruleset: Ruleset, origins: RuleMap | None, name: str) -> Told:
+    """A decision as the operator's text has it; `name` is what the ruleset is called, `origins` its map, if it was
+    fitted."""
+    origin = origins and origins.origin(one.chain, one.rule)
+    if origin:
+        return Told(origin.chain, origin.rule, one.verdict, origin.text, origin.file, origin.line)
+    text, line = ruleset.text_of(one.chain, one.rule), ruleset.line_of(one.chain, one.rule)
+    return Told(one.chain, one.rule, one.verdict, text, name, line)
 
 
 def differing(old: Replay, new: Replay) -> bytearray:

@@ -12,6 +12,7 @@ from toolbox.router import Uncompared
 
 if TYPE_CHECKING:
     from toolbox.differences import Group, Told
+    from toolbox.every_packet import EveryPacket
     from toolbox.evidence import Evidence
 
 
@@ -24,6 +25,7 @@ class Kind(enum.Enum):
     OTHERWISE = "otherwise"
     PORTS = "ports"  # other ports behind the same rules
     UNMET = "unmet"  # a change that no packet met
+    CLASS = "class"  # packets with which the rulesets differ, whatever is captured
 
 
 LISTS = {OPENED: Kind.OPENED, BLOCKED: Kind.BLOCKED, REWRITTEN: Kind.REWRITTEN, OTHERWISE: Kind.OTHERWISE}
@@ -169,10 +171,10 @@ class Seen:
 
 
 class Guard:
-    """Judges one comparison after another."""
+    """Judges one comparison after another; `every` is what is known of all packets, if that was asked."""
 
-    def __init__(self, kinds: frozenset[Kind], allowed: AllowList) -> None:
-        self.kinds, self.allowed = kinds, allowed
+    def __init__(self, kinds: frozenset[Kind], allowed: AllowList, every: EveryPacket | None = None) -> None:
+        self.kinds, self.allowed, self.every = kinds, allowed, every
         self.seen: list[Seen] = []
 
     def judged(self, groups: Sequence[Group]) -> tuple[Judged, ...]:
@@ -185,13 +187,22 @@ class Guard:
     def failing(self) -> list[tuple[Seen, Judged]]:
         return [(seen, one) for seen in self.seen for one in seen.judged if one.fails]
 
+    @property
+    def is_same(self) -> bool:
+        """Whether the rulesets are known to do the same with every packet."""
+        return self.every is not None and self.every.is_same
+
     def unmet(self) -> list[Unmet]:
-        """The changes that no packet of any capture met."""
+        """The changes that no packet of any capture met, where they may matter."""
+        if self.is_same:
+            return []
         others = [{one.text for one in seen.unmet} for seen in self.seen]
         return [one for one in self.seen[0].unmet if all(one.text in texts for texts in others)]
 
     def untold(self) -> list[str]:
         """The changes of which no capture tells whether a packet met them."""
+        if self.is_same:
+            return []
         unmet = {one.text for one in self.unmet()}
         open_ones = [{*seen.untold, *(one.text for one in seen.unmet)} for seen in self.seen]
         told = dict.fromkeys(text for seen in self.seen for text in seen.untold)
@@ -224,12 +235,18 @@ class Guard:
         unmet = len(self.unmet())
         if unmet and Kind.UNMET in self.kinds:
             counts[Kind.UNMET] = unmet
+        if self.every and self.every.classes and Kind.CLASS in self.kinds:
+            counts[Kind.CLASS] = len(self.every.classes)
         return {kind: counts[kind] for kind in Kind if kind in counts}
+
+    def lacks_classes(self) -> bool:
+        """Whether classes are failed on, and nothing is known of them."""
+        return Kind.CLASS in self.kinds and (self.every is None or self.every.unknown is not None)
 
     def status(self) -> int:
         if self.fails_on():
             return DIFFERS
-        if self.nothing() or any(seen.router for seen in self.seen):
+        if self.lacks_classes() or not self.is_same and (self.nothing() or any(seen.router for seen in self.seen)):
             return REFUSED
         return TORN if any(seen.is_torn for seen in self.seen) else DONE
 
@@ -244,6 +261,8 @@ class Guard:
         if nothing:
             parts.append(f"nothing was compared in {nothing} of {plural(len(self.seen), 'capture')}")
         parts += self.otherwise()
+        if self.every and self.lacks_classes():
+            parts.append(self.every.text())
         return ", ".join(parts + ([f"{plural(accepted, 'group')} accepted"] if accepted else []))
 
 

@@ -2,19 +2,16 @@
 from __future__ import annotations
 
 import enum
-import subprocess
-import tempfile
 from dataclasses import dataclass
 from typing import Iterable, Mapping, Tuple
 
-from toolbox.commands import DONE, Refused
-from toolbox.program import run_child
+from toolbox.answering import NoAnswer, answer_to, unread
+from toolbox.commands import DONE
 
 # the chain of a rule, as "FAMILY TABLE CHAIN", and its number there
 RulePlace = Tuple[str, int]
 SECONDS = 10  # in which rulesets of 16,000 rules are answered
-USAGE, CANT_BE_MET, TOO_LARGE = 2, 8, 9  # statuses of `nftrun reach`
-PREFIX = "nftrun: "  # of its lines on standard error
+CANT_BE_MET = 8  # the status of `nftrun reach` where a rule can't be met
 
 
 class Meeting(enum.Enum):
@@ -53,36 +50,15 @@ class Answers:
     are_all_met: bool
 
 
-@dataclass(frozen=True)
-class NoAnswer:
-    """Why there is no answer; `was_asked` is False where the program lacks the question."""
-
-    why: str
-    was_asked: bool = True
-    is_too_large: bool = False
-
-
 def ask(program: str, rules: str, box: str, seconds: int | None = None) -> Answers | NoAnswer:
     """What a program answers of a ruleset and a box file, given by their paths; none behind so many seconds."""
-    with tempfile.TemporaryFile() as output:
-        try:
-            status, errors = run_child([program, "reach", "--", rules, box], output.fileno(), seconds)
-        except subprocess.TimeoutExpired:
-            return NoAnswer(f"nftrun reach took over {seconds} s")
-        except Refused as refusal:
-            return NoAnswer(str(refusal), was_asked=False)
-        output.seek(0)
-        text = output.read().decode("utf-8", "surrogateescape")
-    first = errors.partition("\n")[0]
-    if status == USAGE:
-        return NoAnswer(f"{program} has no `reach` ({first})", was_asked=False)
-    if status not in (DONE, CANT_BE_MET):
-        why = first.removeprefix(PREFIX) or f"status {status}"
-        return NoAnswer(f"nftrun reach: {why}", is_too_large=status == TOO_LARGE)
+    found = answer_to(program, ["reach", "--", rules, box], (DONE, CANT_BE_MET), seconds)
+    if isinstance(found, NoAnswer):
+        return found
     try:
-        return answers_of(text.removesuffix("\n").split("\n"), status == DONE)
+        return answers_of(found.lines, found.status == DONE)
     except ValueError as fault:
-        return NoAnswer(f"nftrun reach: a line that can't be read: {fault}")
+        return unread("reach", fault)
 
 
 def answers_of(lines: Iterable[str], are_all_met: bool) -> Answers:

@@ -65,26 +65,36 @@ class Shaping:
     def __init__(self, network: Network, turn: int = 0) -> None:
         self.network, self.turn = network, turn
 
+    def inputs_of(self, facts: Facts) -> Numbers:
+        """The interfaces by which a packet may come: those behind which its source may be, if there are any."""
+        inputs = facts.of(INPUT) & self.network.interfaces
+        behind = Numbers.listed(index for index in inputs
+                                if self.network.routed.get(index, Numbers(())) & facts.of(SOURCE))
+        return behind or inputs
+
     def source_of(self, facts: Facts, interface: int) -> int:
         wanted = facts.of(SOURCE)
         hosts = self.network.routed.get(interface, Numbers(())) - self.network.own
         return pick_address((wanted & hosts, wanted - self.network.own, wanted), self.turn)
 
-    def destination_of(self, facts: Facts, source: int) -> int:
+    def destination_of(self, facts: Facts, source: int, interface: int) -> int:
+        """One behind another interface than that by which the packet comes, if the facts leave that open."""
         wanted = facts.of(DESTINATION)
         unicast = Numbers.between(1 << 24, (224 << 24) - 1) - Numbers.between(127 << 24, (128 << 24) - 1)
         others = wanted - Numbers.listed([source])
-        return pick_address((others & unicast - self.network.own, others, wanted), self.turn)
+        hosts = others & unicast - self.network.own
+        beyond = hosts - self.network.routed.get(interface, Numbers(()))
+        return pick_address((beyond, hosts, others, wanted), self.turn)
 
     def made(self, facts: Facts, about: bytes | None = None) -> Sent | None:
         """A packet with these facts, or None where no packet has them; `about` is what an ICMP error quotes."""
-        inputs = facts.of(INPUT) & self.network.interfaces
+        inputs = self.inputs_of(facts)
         if not inputs:
             return None
         interface = inputs.at(self.turn)
         protocol = pick(facts.of(PROTOCOL), USUAL[PROTOCOL], 0)
         source = self.source_of(facts, interface)
-        destination = self.destination_of(facts, source)
+        destination = self.destination_of(facts, source, interface)
         ports = [pick(facts.of(name) - Numbers.listed([0]) or facts.of(name), USUAL[name], self.turn)
                  for name in (SOURCE_PORT, DESTINATION_PORT)]
         here, there = (packed(source), ports[0]), (packed(destination), ports[1])

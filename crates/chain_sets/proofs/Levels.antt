@@ -4,6 +4,7 @@ use Rattle.std.proofs.Common.{Option, Some, None, arith, unwrap_or, zero}
 use Rattle.std.proofs.lemmas.List.{drop_more}
 use Rattle.std.proofs.lemmas.List.Folds.{list_any-append}
 use Rattle.nft_tree.specs.Tree.{Statement}
+use Rattle.nft_tree.specs.declared.ruleset.RuleNo.{RuleNo}
 use Rattle.packet_sets.specs.Sets.{DiagramsView, IsSet, Keeps, holds}
 use Rattle.rule_meaning.specs.declared.event.HookVerdict.{HookVerdict}
 use Rattle.rule_meaning.specs.declared.event.RuleVerdict.{RuleVerdict}
@@ -87,46 +88,46 @@ module _ (p : Program Statement) (interfaces : List Interface) where
   way_along into rest f w (Jump t) = then_back rest (into t (facts_of interfaces w f))
   way_along into rest f w (Goto t) = into t (facts_of interfaces w f)
 
-  pub along : (into : ℕ → Facts → Way Statement) (rest : Facts → Way Statement) (f : ℕ → Bool) (w : Written) (v : Option RuleVerdict)
-      → way_along into rest f w (course_by v w) ≡ after_verdict into rest v (facts_of interfaces w f)
-  along into rest f w None = refl
-  along into rest f w (Some verdicts.Continue) = refl
-  along into rest f w (Some verdicts.Accept) = refl
-  along into rest f w (Some verdicts.Drop) = refl
-  along into rest f w (Some (verdicts.Translate a)) = refl
-  along into rest f w (Some verdicts.Return) = refl
-  along into rest f w (Some (verdicts.Jump t)) = refl
-  along into rest f w (Some (verdicts.Goto t)) = refl
+  pub along : (rule : RuleNo) (into : ℕ → Facts → Way Statement) (rest : Facts → Way Statement) (f : ℕ → Bool) (w : Written) (v : Option RuleVerdict)
+      → way_along into rest f w (course_by rule v w) ≡ after_verdict into rest v (facts_of interfaces w f)
+  along rule into rest f w None = refl
+  along rule into rest f w (Some verdicts.Continue) = refl
+  along rule into rest f w (Some verdicts.Accept) = refl
+  along rule into rest f w (Some verdicts.Drop) = refl
+  along rule into rest f w (Some (verdicts.Translate a)) = refl
+  along rule into rest f w (Some verdicts.Return) = refl
+  along rule into rest f w (Some (verdicts.Jump t)) = refl
+  along rule into rest f w (Some (verdicts.Goto t)) = refl
 
-  by_path : (d : DiagramsView) (turn : Case Turn) (path : Course) (l : ℕ) (rest : Facts → Way Statement) (look : Look) (f : ℕ → Bool)
-      → path ≡ course_by turn.outcome.verdict turn.outcome.written
+  by_path : (rule : RuleNo) (d : DiagramsView) (turn : Case Turn) (path : Course) (l : ℕ) (rest : Facts → Way Statement) (look : Look) (f : ℕ → Bool)
+      → path ≡ course_by rule turn.outcome.verdict turn.outcome.written
       → (holds d turn.set f && looks p look (way_along (way p l) rest f turn.outcome.written path))
       ≡ some_turn interfaces d (turn ∷ []) f (λ v g. looks p look (after_verdict (way p l) rest v g))
-  by_path d turn path l rest look f is =
+  by_path rule d turn path l rest look f is =
       ap (λ x. holds d turn.set f && looks p look x)
-      (ap (way_along (way p l) rest f turn.outcome.written) is ∙ along (way p l) rest f turn.outcome.written turn.outcome.verdict)
+      (ap (way_along (way p l) rest f turn.outcome.written) is ∙ along rule (way p l) rest f turn.outcome.written turn.outcome.verdict)
       ∙ sym (some-one d turn f (λ t. looks p look (after_verdict (way p l) rest t.verdict (facts_of interfaces t.written f))))
 
   -- it is at an exit
-  pub leaves_at : (levels : ℕ) (d : DiagramsView) (turn : Case Turn) (exit : Exit) (exits : List (Case Exit)) (rules : ℕ → ℕ → RuleSets)
-      → IsSet d turn.set → AreRuleSets d rules → To exit ≡ course_by turn.outcome.verdict turn.outcome.written
+  pub leaves_at : (rule : RuleNo) (levels : ℕ) (d : DiagramsView) (turn : Case Turn) (exit : Exit) (exits : List (Case Exit)) (rules : ℕ → ℕ → RuleSets)
+      → IsSet d turn.set → AreRuleSets d rules → To exit ≡ course_by rule turn.outcome.verdict turn.outcome.written
       → exits ≡ record { set = turn.set; outcome = exit } ∷ [] → Leave p interfaces levels d d (turn ∷ []) exits rules rules
-  leaves_at levels d turn exit exits rules is rules_are path one = record {
+  leaves_at rule levels d turn exit exits rules is rules_are path one = record {
     are = subst (AreCases d) (sym one) (is, tt);
     rules_are = rules_are;
     same = λ l deep rest look f. ap (λ b. in_rules d rules look f || b)
         (ap (λ xs. some_exit p interfaces d xs rest look f) one
         ∙ some-one d (record { set = turn.set; outcome = exit }) f (λ x. looks p look (way_from p interfaces rest f x))
-        ∙ by_path d turn (To exit) l rest look f path);
+        ∙ by_path rule d turn (To exit) l rest look f path);
   }
 
   -- ---- a goto
 
-  pub leaves_by_goto : (levels t : ℕ) (d0 d : DiagramsView) (turn : Case Turn) (ends : List (Case ChainEnd)) (exits : List (Case Exit))
-      (before after : ℕ → ℕ → RuleSets) → Goto t ≡ course_by turn.outcome.verdict turn.outcome.written
+  pub leaves_by_goto : (rule : RuleNo) (levels t : ℕ) (d0 d : DiagramsView) (turn : Case Turn) (ends : List (Case ChainEnd)) (exits : List (Case Exit))
+      (before after : ℕ → ℕ → RuleSets) → Goto t ≡ course_by rule turn.outcome.verdict turn.outcome.written
       → Walk p interfaces levels t d0 d (record { set = turn.set; outcome = turn.outcome.written } ∷ []) ends before after
       → exits ≡ map (with_outcome Ends) ends → Leave p interfaces levels d0 d (turn ∷ []) exits before after
-  leaves_by_goto levels t d0 d turn ends exits before after path walk gone = record {
+  leaves_by_goto rule levels t d0 d turn ends exits before after path walk gone = record {
     are = subst (AreCases d) (sym gone) (are-mapped d Ends ends walk.are);
     rules_are = walk.rules_are;
     same = λ l deep rest look f.
@@ -135,7 +136,7 @@ module _ (p : Program Statement) (interfaces : List Interface) where
         ∙ walk.same l deep look f
         ∙ ap (λ b. in_rules d0 before look f || b)
         (some-one d0 (record { set = turn.set; outcome = turn.outcome.written }) f (λ w. looks p look (way p l t (facts_of interfaces w f)))
-        ∙ by_path d0 turn (Goto t) l rest look f path);
+        ∙ by_path rule d0 turn (Goto t) l rest look f path);
   }
 
   -- ---- a jump
@@ -149,7 +150,7 @@ module _ (p : Program Statement) (interfaces : List Interface) where
   exit-behind rest look f e = by e.verdict
     where
       by : (v : Option HookVerdict)
-          → looks p look (way_from p interfaces rest f (back_by v (record { verdict = v; written = e.written })))
+          → looks p look (way_from p interfaces rest f (back_by v (record { verdict = v; written = e.written; by = e.by })))
           ≡ behind rest look (end_with v (facts_of interfaces e.written f))
       by None = refl
       by (Some v) = refl
@@ -205,16 +206,16 @@ module _ (p : Program Statement) (interfaces : List Interface) where
         (sym (list_any-append (is_seen p (meets_last c n)) through.visits (end_behind_chain rest through.end).visits))
     comes_back (ends_so test) = found-behind (ends_so test)
 
-  pub leaves_by_jump : (levels t : ℕ) (d0 d : DiagramsView) (turn : Case Turn) (ends : List (Case ChainEnd)) (exits : List (Case Exit))
-      (before after : ℕ → ℕ → RuleSets) → Jump t ≡ course_by turn.outcome.verdict turn.outcome.written
+  pub leaves_by_jump : (rule : RuleNo) (levels t : ℕ) (d0 d : DiagramsView) (turn : Case Turn) (ends : List (Case ChainEnd)) (exits : List (Case Exit))
+      (before after : ℕ → ℕ → RuleSets) → Jump t ≡ course_by rule turn.outcome.verdict turn.outcome.written
       → Walk p interfaces levels t d0 d (record { set = turn.set; outcome = turn.outcome.written } ∷ []) ends before after
       → exits ≡ map (with_outcome back_from) ends → Leave p interfaces levels d0 d (turn ∷ []) exits before after
-  leaves_by_jump levels t d0 d turn ends exits before after path walk back = record {
+  leaves_by_jump rule levels t d0 d turn ends exits before after path walk back = record {
     are = subst (AreCases d) (sym back) (are-mapped d back_from ends walk.are);
     rules_are = walk.rules_are;
     same = λ l deep rest look f.
         comes_back levels t d0 d turn ends exits before after walk back l deep rest f look
-        ∙ ap (λ b. in_rules d0 before look f || b) (by_path d0 turn (Jump t) l rest look f path);
+        ∙ ap (λ b. in_rules d0 before look f || b) (by_path rule d0 turn (Jump t) l rest look f path);
   }
 
   -- ---- turn after turn

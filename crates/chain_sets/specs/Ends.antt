@@ -12,6 +12,6 @@ abbrev pub end_with : Option HookVerdict → Facts → WayEnd
 end_with None f = ended f
 end_with (Some verdict) f = over verdict f
 
--- how the way of a packet ends that is in a case with this end
+-- how the way of a packet ends that is in a case with this end, whichever rule's verdict it is
 abbrev pub end_of : List Interface → (ℕ → Bool) → ChainEnd → WayEnd
 end_of interfaces packet e = end_with e.verdict (facts_of interfaces e.written packet)

@@ -14,4 +14,4 @@ mod ways;
 pub use fault::WalkError;
 pub use outcomes::ChainEnd;
 pub use visits::{RuleSets, Visits};
-pub use ways::{ChainSets, LEVELS, chain_sets};
+pub use ways::{ChainSets, LEVELS, chain_sets, chain_sets_from};

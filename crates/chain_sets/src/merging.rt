@@ -19,24 +19,50 @@ pub(crate) trait Merge: Copy {
     fn is_final(&self) -> bool;
 }
 
-/// With so many cases, final ones are merged too.
+/// With so many cases, final ones are merged too, with one of the newest so many.
 const APART: usize = 0x4000;
 
-/// The index of a case to which one with this outcome is added, if it is. Final ones stay apart: the
-/// packets of many rules' verdicts as one set can take far more nodes than those of each.
-fn place_of<V: Merge>(cases: &[Case<V>], outcome: &V) -> Option<usize>
+/// The index of the first case with this outcome.
+fn first_place<V: Merge>(cases: &[Case<V>], outcome: &V) -> Option<usize>
     ensures { IfSome result (λ place. option_map (λ c. c.outcome) (slice_get cases.now place)
         ≡ Some outcome.now) }
 {
-    if outcome.is_final() && cases.len() < APART {
-        return None;
-    }
     for (place, case) in cases.iter().enumerate() {
         if case.outcome.is(outcome) {
             return Some(place);
         }
     }
     None
+}
+
+/// That of the newest one of the newest `APART`: a chain's ends are the newest when packets come to it
+/// again.
+fn newest_place<V: Merge>(cases: &[Case<V>], outcome: &V) -> Option<usize>
+    ensures { IfSome result (λ place. option_map (λ c. c.outcome) (slice_get cases.now place)
+        ≡ Some outcome.now) }
+{
+    for back in 1..=APART {
+        let place = cases.len().checked_sub(back)?;
+        if cases[place].outcome.is(outcome) {
+            return Some(place);
+        }
+    }
+    None
+}
+
+/// The index of a case to which one with this outcome is added, if it is. Final ones stay apart: the
+/// packets of many ways to a verdict as one set can take far more nodes than those of each.
+fn place_of<V: Merge>(cases: &[Case<V>], outcome: &V) -> Option<usize>
+    ensures { IfSome result (λ place. option_map (λ c. c.outcome) (slice_get cases.now place)
+        ≡ Some outcome.now) }
+{
+    if !outcome.is_final() {
+        first_place(cases, outcome)
+    } else if cases.len() < APART {
+        None
+    } else {
+        newest_place(cases, outcome)
+    }
 }
 
 /// Adds a case: where another has its outcome, to that one. It is left out where it has no packet.

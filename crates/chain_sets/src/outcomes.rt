@@ -1,11 +1,12 @@
 //! Where packets are behind a rule, and how their ways end.
 ghost use Rattle.std.specs.Prelude.{◌≡◌, ◌∷◌, [], map, true, IfOk, None};
 ghost use Rattle.std.specs.List.{filter_map};
-ghost use Rattle.chain_sets.specs.steps.Outcomes.{back_from, case_if, end_in, end_without, course_by, turn_at, written_next};
+ghost use Rattle.chain_sets.specs.steps.Outcomes.{back_from, case_if, course_by, end_by, end_in, end_without, turn_at, written_next};
 ghost use Rattle.chain_sets.specs.steps.Merging.{with_outcome};
 
 use crate::merging::Merge;
 use fact_sets::{Case, Written};
+use nft_tree::RuleNo;
 use packet_sets::PacketSet;
 use rule_meaning::{HookVerdict, RuleVerdict};
 use rule_sets::End;
@@ -17,6 +18,9 @@ use std::alloc::{AllocError, Global};
 pub struct ChainEnd {
     pub verdict: Option<HookVerdict>,
     pub written: Written,
+    /// The rule whose verdict ended the way, where there is one: `None` at the chain's end. It is told
+    /// for people: no contract rests on it.
+    pub by: Option<RuleNo>,
 }
 
 /// Where a rule has ended: its verdict, if it gave one, and what rules have written then.
@@ -69,6 +73,24 @@ fn same_rule_verdict(left: Option<RuleVerdict>, right: Option<RuleVerdict>) -> b
     }
 }
 
+/// Whether it is the same rule.
+fn same_number(left: RuleNo, right: RuleNo) -> bool
+    ensures { result ≡ true → left ≡ right }
+{
+    left.table == right.table && left.chain == right.chain && left.rule == right.rule
+}
+
+/// Whether the same rule has ended both, or none.
+fn same_rule(left: Option<RuleNo>, right: Option<RuleNo>) -> bool
+    ensures { result ≡ true → left ≡ right }
+{
+    match (left, right) {
+        (None, None) => true,
+        (Some(left), Some(right)) => same_number(left, right),
+        _ => false,
+    }
+}
+
 impl Merge for Turn {
     fn is(&self, other: &Self) -> bool {
         self.written == other.written && same_rule_verdict(self.verdict, other.verdict)
@@ -81,7 +103,9 @@ impl Merge for Turn {
 
 impl Merge for ChainEnd {
     fn is(&self, other: &Self) -> bool {
-        self.written == other.written && same_result(self.verdict, other.verdict)
+        same_rule(self.by, other.by)
+            && self.written == other.written
+            && same_result(self.verdict, other.verdict)
     }
 
     fn is_final(&self) -> bool {
@@ -224,6 +248,7 @@ pub(crate) fn ended(
             outcome: ChainEnd {
                 verdict: None,
                 written: state.outcome,
+                by: None,
             },
         })
         .collect(alloc)
@@ -239,26 +264,41 @@ pub(crate) enum Course {
     Goto(u32),
 }
 
-/// At the end of the chain, or with a verdict for the base chain.
-fn at_end(verdict: Option<HookVerdict>, written: Written) -> Course
-    ensures { result ≡ Course.To (Exit.Ends (record { verdict = verdict; written = written })) }
+/// At the end of the chain.
+fn at_end(written: Written) -> Course
+    ensures { result ≡ Course.To (Exit.Ends (end_without written)) }
 {
-    Course::To(Exit::Ends(ChainEnd { verdict, written }))
+    Course::To(Exit::Ends(ChainEnd {
+        verdict: None,
+        written,
+        by: None,
+    }))
 }
 
-/// What becomes of them, by the rule's verdict.
-pub(crate) fn course_of(turn: Turn) -> Course
-    ensures { result ≡ course_by turn.verdict turn.written }
+/// At a verdict of the rule for the base chain.
+fn over(rule: RuleNo, verdict: HookVerdict, written: Written) -> Course
+    ensures { result ≡ Course.To (Exit.Ends (end_by rule verdict written)) }
+{
+    Course::To(Exit::Ends(ChainEnd {
+        verdict: Some(verdict),
+        written,
+        by: Some(rule),
+    }))
+}
+
+/// What becomes of them, by the verdict of the rule.
+pub(crate) fn course_of(rule: RuleNo, turn: Turn) -> Course
+    ensures { result ≡ course_by rule turn.verdict turn.written }
 {
     let written = turn.written;
     match turn.verdict {
         None | Some(RuleVerdict::Continue) => Course::To(Exit::Next(written)),
-        Some(RuleVerdict::Accept) => at_end(Some(HookVerdict::Accepted), written),
-        Some(RuleVerdict::Drop) => at_end(Some(HookVerdict::Dropped), written),
+        Some(RuleVerdict::Accept) => over(rule, HookVerdict::Accepted, written),
+        Some(RuleVerdict::Drop) => over(rule, HookVerdict::Dropped, written),
         Some(RuleVerdict::Translate(action)) => {
-            at_end(Some(HookVerdict::Translated(action)), written)
+            over(rule, HookVerdict::Translated(action), written)
         }
-        Some(RuleVerdict::Return) => at_end(None, written),
+        Some(RuleVerdict::Return) => at_end(written),
         Some(RuleVerdict::Jump(chain)) => Course::Jump(chain),
         Some(RuleVerdict::Goto(chain)) => Course::Goto(chain),
     }

@@ -27,7 +27,7 @@ use packet_sets::Diagrams;
 use rule_code::Lookups;
 use std::alloc::{AllocError, Global};
 
-/// Where the packets of a turn are behind their rule, where so many levels of chains are left.
+/// Where the packets of a turn are behind the rule, where so many levels of chains are left.
 #[cycle(walking)]
 fn turn_exits(
     alloc: Global,
@@ -35,6 +35,7 @@ fn turn_exits(
     lookups: &mut Lookups,
     table: TableSetting<'_, '_>,
     levels: u32,
+    rule: RuleNo,
     turn: Case<Turn>,
     visits: &mut Visits,
 ) -> Result<Vec<Case<Exit>>, WalkError>
@@ -55,7 +56,7 @@ fn turn_exits(
         set: turn.set,
         outcome: turn.outcome.written,
     };
-    match course_of(turn.outcome) {
+    match course_of(rule, turn.outcome) {
         Course::To(exit) => Ok(one_exit(alloc, turn.set, exit)?),
         Course::Jump(chain) => {
             let ends = walk_chain(
@@ -86,7 +87,7 @@ fn turn_exits(
     }
 }
 
-/// Where the packets of all turns are.
+/// Where the packets of all turns of the rule are.
 #[cycle(walking)]
 fn rule_exits(
     alloc: Global,
@@ -94,6 +95,7 @@ fn rule_exits(
     lookups: &mut Lookups,
     table: TableSetting<'_, '_>,
     levels: u32,
+    rule: RuleNo,
     turns: &[Case<Turn>],
     visits: &mut Visits,
 ) -> Result<Vec<Case<Exit>>, WalkError>
@@ -112,7 +114,7 @@ fn rule_exits(
 {
     let mut exits = Vec::new(alloc);
     for turn in turns {
-        let more = turn_exits(alloc, diagrams, lookups, table, levels, *turn, visits)?;
+        let more = turn_exits(alloc, diagrams, lookups, table, levels, rule, *turn, visits)?;
         add_cases(diagrams, &mut exits, &more)?;
     }
     Ok(exits)
@@ -150,7 +152,9 @@ fn pass_rule(
         → diagrams.new.limit ≤ length diagrams.new.nodes) }
 {
     let turns = rule_turns(alloc, diagrams, lookups, table, rule, stmts, states, visits)?;
-    rule_exits(alloc, diagrams, lookups, table, levels, &turns, visits)
+    rule_exits(
+        alloc, diagrams, lookups, table, levels, rule, &turns, visits,
+    )
 }
 
 /// The number of a rule, by its index.

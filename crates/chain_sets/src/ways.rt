@@ -8,7 +8,8 @@ ghost use Rattle.rule_meaning.specs.Runs.{table_program};
 ghost use Rattle.lowering.specs.Lowered.{Extends, HasDeclared};
 ghost use Rattle.chain_ways.specs.Ways.{way};
 ghost use Rattle.chain_sets.specs.declared.fault.WalkError.TheVariants.{TooLarge};
-ghost use Rattle.chain_sets.specs.ChainSets.{AreOnWays};
+ghost use Rattle.fact_sets.specs.Effects.{AreCases};
+ghost use Rattle.chain_sets.specs.ChainSets.{AreOnWays, AreOnWaysFrom};
 ghost use Rattle.chain_sets.specs.RuleSets.{sets_of};
 
 use crate::fault::WalkError;
@@ -62,14 +63,54 @@ pub fn chain_sets(
     ensures too_large { IfErr result (λ e. e ≡ TooLarge
         → diagrams.new.limit ≤ length diagrams.new.nodes) }
 {
+    let state = Case {
+        set,
+        outcome: Written::NOTHING,
+    };
+    chain_sets_from(
+        alloc,
+        diagrams,
+        lookups,
+        setting,
+        interfaces,
+        chain,
+        &[state],
+    )
+}
+
+/// The ways of the packets of states through a chain of a table.
+///
+/// # Errors
+///
+/// `TooLarge` where more nodes are needed than the limit allows, `Memory` where an allocation
+/// failed, `TooDeep` where packets come to more than `LEVELS` chains in one another.
+pub fn chain_sets_from(
+    alloc: Global,
+    diagrams: &mut Diagrams,
+    lookups: &mut Lookups,
+    setting: Setting<'_, '_>,
+    interfaces: &Interfaces,
+    chain: ChainNo,
+    states: &[Case<Written>],
+) -> Result<ChainSets, WalkError>
+    requires declared { HasDeclared setting.plant.now setting.names.now lookups.old }
+    requires types { table_mismatches setting.names.now ≡ false }
+    requires bounds { list_any item_out_of_range setting.names.now.items ≡ false }
+    requires states { AreCases diagrams.old states.now }
+    ensures keeps { Keeps diagrams.old diagrams.new }
+    ensures extends { OnOk result (Extends lookups.old lookups.new) }
+    ensures value { IfOk result (λ sets. (levels : ℕ) → LEVELS ≤ levels → AreOnWaysFrom
+        (table_program setting.entry.plant.now chain.table setting.entry.names.now) interfaces.now
+        (way (table_program setting.entry.plant.now chain.table setting.entry.names.now)
+        levels chain.chain) diagrams.old diagrams.new states.now (sets_of sets.rules)
+        sets.ends.items) }
+    ensures too_large { IfErr result (λ e. e ≡ TooLarge
+        → diagrams.new.limit ≤ length diagrams.new.nodes) }
+{
     let table = TableSetting {
         number: chain.table,
         setting,
         interfaces,
-    };
-    let state = Case {
-        set,
-        outcome: Written::NOTHING,
     };
     let mut rules = Visits::new(alloc);
     // the sets of rules to which no packet comes
@@ -81,7 +122,7 @@ pub fn chain_sets(
         table,
         LEVELS,
         chain.chain,
-        &[state],
+        states,
         &mut rules,
     )?;
     Ok(ChainSets { rules, ends })

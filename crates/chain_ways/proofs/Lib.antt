@@ -4,4 +4,5 @@ mod Costs
 mod Events
 mod Fitting
 mod Lists
+pub mod Stages
 mod Visits

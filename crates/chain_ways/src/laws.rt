@@ -3,11 +3,14 @@ ghost use Rattle.std.specs.Prelude.{◌≡◌, List, Contains, Some, slice_get};
 ghost use Rattle.nft_tree.specs.Tree.{Statement, TableTree};
 ghost use Rattle.box_file.specs.Box.{PlantTree};
 ghost use Rattle.rule_check.specs.WellFormed.{WellFormed};
+ghost use Rattle.rule_meaning.specs.declared.stage.HookStage.{HookStage};
 ghost use Rattle.rule_meaning.specs.Runs.{Program};
 ghost use Rattle.rule_meaning.specs.Hooks.{BaseChain, base_chains_of};
+ghost use Rattle.chain_ways.specs.BaseWays.{StageRunsAreWays};
 ghost use Rattle.chain_ways.specs.Laws.{RunsAreWays, WaysAreRuns, BaseChainEventsFitWays, BaseChainRunsAreWays};
 
 use rule_laws::{costs_rank_chains, hooks_terminate};
+use rule_meaning::hook_result_unique;
 use rule_paths::{costs_exist, path_faults_decidable};
 use rule_sets::rule_runs_to_its_end;
 
@@ -43,4 +46,15 @@ pub fn base_chain_events_fit_ways()
         → BaseChainEventsFitWays plant tables b table }
 {
     base_chain_runs_are_ways();
+}
+
+/// In a well-formed ruleset each packet runs through the base chains of a stage along its ways through
+/// them, one after another.
+pub fn stage_runs_are_ways()
+    ensures { (tables : List TableTree) (plant : PlantTree) → WellFormed tables plant
+        → (stage : HookStage) → StageRunsAreWays plant tables stage }
+{
+    base_chain_runs_are_ways();
+    hooks_terminate();
+    hook_result_unique();
 }

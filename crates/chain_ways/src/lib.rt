@@ -4,4 +4,6 @@
 
 mod laws;
 
-pub use laws::{base_chain_events_fit_ways, base_chain_runs_are_ways, runs_are_ways};
+pub use laws::{
+    base_chain_events_fit_ways, base_chain_runs_are_ways, runs_are_ways, stage_runs_are_ways,
+};

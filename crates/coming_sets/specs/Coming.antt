@@ -6,13 +6,15 @@ use Rattle.nft_tree.specs.declared.chain.ChainKind.TheVariants as kinds
 use Rattle.nft_tree.specs.declared.chain.Hook.{Hook}
 use Rattle.nft_tree.specs.declared.chain.Hook.TheVariants as hooks
 use Rattle.nft_tree.specs.declared.selector.Selector.{Selector}
-use Rattle.nft_tree.specs.declared.selector.Selector.TheVariants.{CtState, IcmpType, InputIndex, IpProtocol}
+use Rattle.nft_tree.specs.declared.selector.Selector.TheVariants.{CtState, IcmpType, InputIndex, IpLength, IpProtocol}
 use Rattle.nft_tree.specs.declared.selector.Selector.TheVariants.{OutputIndex, TcpSource, UdpSource}
 use Rattle.nft_tree.specs.declared.statement.Operator.{Operator}
 use Rattle.nft_tree.specs.declared.statement.Operator.TheVariants.{AtLeast, Equal, Unequal}
 use Rattle.nft_tree.specs.ValueTypes.{STATE_NEW}
 use Rattle.nft_values.specs.Values.{one_number}
 use Rattle.rule_meaning.specs.declared.facts.Facts.{Facts}
+use Rattle.rule_meaning.specs.declared.stage.HookStage.{HookStage}
+use Rattle.rule_meaning.specs.declared.stage.HookStage.TheVariants as stages
 use Rattle.rule_meaning.specs.Hooks.{BaseChain, is_prerouting_raw}
 use Rattle.rule_meaning.specs.Matches.{compares, tests}
 use Rattle.rule_meaning.specs.Selectors.{value}
@@ -41,8 +43,12 @@ is_field_of protocol s f = cond (matches IpProtocol Equal protocol f) (has_value
 abbrev pub has_headers : Facts → Bool
 has_headers f = (is_field_of 6 TcpSource f && is_field_of 17 UdpSource f) && is_field_of 1 IcmpType f
 
+-- its total length counts the header, of at least 20 octets (RFC 791, section 3.1)
+abbrev pub has_length : Facts → Bool
+has_length f = matches IpLength AtLeast 20 f
+
 abbrev pub is_packet : Facts → Bool
-is_packet f = has_input f && has_headers f
+is_packet f = has_input f && (has_length f && has_headers f)
 
 -- ---- the hook (nft(8), "Chains", "Meta expressions")
 
@@ -71,3 +77,26 @@ is_at b f = has_output b.head.hook f && has_state b.head.kind b f
 
 abbrev pub can_come : BaseChain → Facts → Bool
 can_come b f = is_packet f && is_at b f
+
+-- ---- the stages of a hook, by which base chains run
+
+abbrev pub hook_of : HookStage → Hook
+hook_of stages.PreroutingRaw = hooks.Prerouting
+hook_of stages.PreroutingBeforeNat = hooks.Prerouting
+hook_of stages.PreroutingNat = hooks.Prerouting
+hook_of stages.PreroutingAfterNat = hooks.Prerouting
+hook_of stages.Input = hooks.Input
+hook_of stages.Forward = hooks.Forward
+hook_of stages.PostroutingBeforeNat = hooks.Postrouting
+hook_of stages.PostroutingNat = hooks.Postrouting
+hook_of stages.PostroutingAfterNat = hooks.Postrouting
+
+-- the state that its chains see
+abbrev pub has_state_in : HookStage → Facts → Bool
+has_state_in stages.PreroutingRaw f = not (has_value CtState f)
+has_state_in stages.PreroutingNat f = matches CtState Equal STATE_NEW f
+has_state_in stages.PostroutingNat f = matches CtState Equal STATE_NEW f
+has_state_in _ f = has_value CtState f
+
+abbrev pub can_come_to : HookStage → Facts → Bool
+can_come_to stage f = is_packet f && (has_output (hook_of stage) f && has_state_in stage f)

@@ -1,9 +1,9 @@
 //! The packets that can come to a base chain.
-ghost use Rattle.std.specs.Prelude.{◌≡◌, ◌≤◌, cond, length, not, IfOk, IfErr};
+ghost use Rattle.std.specs.Prelude.{◌≡◌, ◌≤◌, ◌&&◌, cond, length, not, IfOk, IfErr};
 ghost use Rattle.packet_sets.specs.Sets.{IsSet, Keeps, Means, holds};
 ghost use Rattle.packet_sets.specs.declared.fault.SetError.TheVariants.{TooLarge};
 ghost use Rattle.fact_sets.specs.Effects.{seen};
-ghost use Rattle.coming_sets.specs.Coming.{can_come, has_headers, has_output, has_state, has_value, is_at, is_field_of, is_packet, matches};
+ghost use Rattle.coming_sets.specs.Coming.{can_come, has_headers, has_length, has_output, has_state, has_value, is_at, is_field_of, is_packet, matches};
 ghost use Rattle.coming_sets.specs.Bases.{base_chain};
 
 use crate::base::Base;
@@ -16,10 +16,13 @@ use set_intervals::Range;
 use std::alloc::Global;
 
 /// The bit of `ct state new`.
-const NEW: u128 = 8;
+pub(crate) const NEW: u128 = 8;
+
+/// The octets of a header without options (RFC 791, section 3.1).
+const HEADER: u128 = 20;
 
 /// The packets whose selector compares so with the number.
-fn matching(
+pub(crate) fn matching(
     alloc: Global,
     diagrams: &mut Diagrams,
     reader: Reader<'_>,
@@ -47,7 +50,7 @@ fn matching(
 }
 
 /// The packets whose selector has no value.
-fn valueless(
+pub(crate) fn valueless(
     alloc: Global,
     diagrams: &mut Diagrams,
     reader: Reader<'_>,
@@ -125,8 +128,28 @@ fn headers(
     diagrams.and(ports, icmp)
 }
 
-/// The packets that came in by an interface, with the header of their protocol.
-fn packets(
+/// The packets with whole headers.
+fn whole(alloc: Global, diagrams: &mut Diagrams, reader: Reader<'_>) -> Result<PacketSet, SetError>
+    ensures keeps { Keeps diagrams.old diagrams.new }
+    ensures value { IfOk result (λ set. Means diagrams.new set
+        (λ packet. has_length (seen reader.entry packet) && has_headers (seen reader.entry packet))) }
+    ensures too_large { IfErr result (λ e. e ≡ TooLarge
+        → diagrams.new.limit ≤ length diagrams.new.nodes) }
+{
+    let long = matching(
+        alloc,
+        diagrams,
+        reader,
+        Selector::IpLength,
+        Operator::AtLeast,
+        HEADER,
+    )?;
+    let headers = headers(alloc, diagrams, reader)?;
+    diagrams.and(long, headers)
+}
+
+/// The packets that came in by an interface, with whole headers.
+pub(crate) fn packets(
     alloc: Global,
     diagrams: &mut Diagrams,
     reader: Reader<'_>,
@@ -145,12 +168,12 @@ fn packets(
         Operator::Unequal,
         0,
     )?;
-    let headers = headers(alloc, diagrams, reader)?;
-    diagrams.and(input, headers)
+    let whole = whole(alloc, diagrams, reader)?;
+    diagrams.and(input, whole)
 }
 
 /// The packets with the hook's output interface.
-fn output(
+pub(crate) fn output(
     alloc: Global,
     diagrams: &mut Diagrams,
     reader: Reader<'_>,

@@ -1,4 +1,4 @@
--- clap's parse of the words of a command of some paths, with some flags, and with `--report FILE` or not, is
+-- clap's parse of the words of a command of some paths, with some flags, and with an option that has a file or not, is
 -- the pass over them (`parsed`): where the pass finds nothing the parse has a fault, and else it has none and the
 -- rows are those of what the pass found.
 use Rattle.std.proofs.Common.{◌&&◌, ◌++◌, ◌+◌, ◌==◌, ◌||◌, ◌∙◌, ◌∷◌, ◌≡◌, [], ℕ, Bool, List, None, Option, Some, ap, append-nil, arith, codes, cond, false}
@@ -24,11 +24,11 @@ use Rattle.clap.specs.declared.parser.matches.ValueSource.{ValueSource}
 use Rattle.clap.specs.declared.parser.matches.ValueSource.TheVariants.{CommandLine, DefaultValue}
 use Rattle.clap.proofs.WalkLemmas.{bundle_ends}
 use Rattle.clap.proofs.FaultLemmas.{fault_ends}
-use Rattle.command_line.specs.steps.Program.{flag_rule, path_rule, report_rule}
+use Rattle.command_line.specs.steps.Program.{file_rule, flag_rule, path_rule}
 use Rattle.command_line.proofs.Words.{AreFlags, Pairs, Seen, has_no_short, Place, after, are_closed, at_end, before, closed, closes, fewer, flag_word}
-use Rattle.command_line.proofs.Words.{is_flag_in, is_in, is_open, is_taken, keeps_open, long_text, naming, no_report, none_of, operand_met, scan, word_met}
+use Rattle.command_line.proofs.Words.{is_flag_in, is_in, is_open, is_taken, keeps_open, long_text, naming, none_of, not_flag, operand_met, scan, word_met}
 use Rattle.clap.specs.declared.error.kind.ErrorKind.TheVariants.{ArgumentConflict}
-use Rattle.command_line.specs.CommandLine.{as_report, report_option}
+use Rattle.command_line.specs.CommandLine.{as_option, option_named}
 
 abbrev pub Each : (Text → Type 0) → List Text → Type 0
 Each P [] = Unit {0}
@@ -74,7 +74,7 @@ pub appended_anew : (id : Text) (how : Reading) (s : ValueSource) (values : List
 appended_anew id how s values all none =
     grind (arith, past_rows id (λ _. []) [] all none, append-nil all, appended id how s values all none)
 
--- a value is the word itself, of a path and of the report's file
+-- a value is the word itself, of a path and of an option's file
 abbrev pub row : Text → Text → Row
 row id v = new_row id (reading_by (filled (path_rule id))) CommandLine (v ∷ [])
 
@@ -84,7 +84,7 @@ set_row id = new_row id (reading_by (filled (flag_rule id))) CommandLine (codes 
 abbrev pub unset_row : Text → Row
 unset_row id = new_row id (reading_by (filled (flag_rule id))) DefaultValue (codes "false" ∷ [])
 
--- the row of the report, and of a flag before and after its default is in
+-- the row of an option's file, and of a flag before and after its default is in
 abbrev pub row_of : Text → Option Text → Option Row
 row_of id o = cond (is_some o) (Some (row id (unwrap_or o []))) None
 
@@ -203,16 +203,16 @@ shown_long c b d v h e = grind arith
 abbrev pub flag_filled : Text → Rule
 flag_filled flag = filled (flag_rule flag)
 
-abbrev pub report_filled : Rule
-report_filled = filled report_rule
+abbrev pub file_filled : Text → Rule
+file_filled opt = filled (file_rule opt)
 
--- the option of a name, of a command with these flags, and with `--report` or not
-abbrev pub option_by : List Text → Bool → Text → Option Rule
-option_by [] has_file name =
+-- the option of a name, of a command with these flags, and with the option that has a file or not
+abbrev pub option_by : Text → List Text → Bool → Text → Option Rule
+option_by opt [] has_file name =
     let other = cond (bytes_eq (codes "help") name || false) (Some help) None in
-    cond (bytes_eq (codes "report") name || false) (cond has_file (Some report_filled) other) other
-option_by (flag ∷ flags) has_file name =
-    cond (bytes_eq flag name || false) (Some (flag_filled flag)) (option_by flags has_file name)
+    cond (bytes_eq opt name || false) (cond has_file (Some (file_filled opt)) other) other
+option_by opt (flag ∷ flags) has_file name =
+    cond (bytes_eq flag name || false) (Some (flag_filled flag)) (option_by opt flags has_file name)
 
 abbrev pub place_of : Text → ℕ → Rule
 place_of id p = with_index p (filled (path_rule id))
@@ -220,24 +220,25 @@ place_of id p = with_index p (filled (path_rule id))
 abbrev pub Other : Text → List Text → Type 0
 Other id others = Each (λ other. bytes_eq id other ≡ false) others
 
--- the paths from a position on, each with an id of its own
-abbrev pub Paths : List Rule → List Text → ℕ → List Text → Type 0
-Paths rules flags p [] = arg_by_index rules p ≡ None
-Paths rules flags p (id ∷ left) =
+-- the paths from a position on, each with an id of its own, which isn't the name of the option that has a file
+abbrev pub Paths : Text → List Rule → List Text → ℕ → List Text → Type 0
+Paths opt rules flags p [] = arg_by_index rules p ≡ None
+Paths opt rules flags p (id ∷ left) =
     (arg_by_index rules p ≡ Some (place_of id p)) × (arg_by_id rules id ≡ Some (place_of id p))
-    × Other id (codes "report" ∷ left) × (is_in flags id ≡ false) × (bytes_eq (codes "report") id ≡ false)
-    × Paths rules flags (min (p + 1) usize_max) left
+    × Other id (opt ∷ left) × (is_in flags id ≡ false) × (bytes_eq opt id ≡ false)
+    × Paths opt rules flags (min (p + 1) usize_max) left
 
 abbrev pub lacks : List Row → List Text → Bool
 lacks rows ids = list_any (λ id. not (is_given id rows)) ids
 
--- the form of a subcommand: its rules, the ids of its paths, its flags, whether it has `--report`, and with
--- what file the pass over its words begins
+-- the form of a subcommand: its rules, the ids of its paths, its flags, the name of an option that has a file,
+-- whether it has that option, and with what file the pass over its words begins
 pub record Form : Type 0 where
   pub name : Text
   pub rules : List Rule
   pub ids : List Text
   pub flags : List Text
+  pub file_option : Text
   pub has_file : Bool
   pub file : Option Text
 
@@ -253,10 +254,10 @@ Defaults c = (all : List Row) → (fold with_default all c.rules ≡ fold defaul
 -- the rules are those of the form
 pub record IsCommand (c : Form) : Type 0 where
   pub shorts : (x : ℕ) → arg_by_short c.rules x ≡ cond (104 == x || false) (Some help) None
-  pub longs : (name : Text) → arg_by_long c.rules name ≡ option_by c.flags c.has_file name
-  pub report : arg_by_id c.rules (codes "report") ≡ cond c.has_file (Some report_filled) None
-  pub paths : Paths c.rules c.flags 1 c.ids
-  pub are : AreFlags c.flags
+  pub longs : (name : Text) → arg_by_long c.rules name ≡ option_by c.file_option c.flags c.has_file name
+  pub by_option : arg_by_id c.rules c.file_option ≡ cond c.has_file (Some (file_filled c.file_option)) None
+  pub paths : Paths c.file_option c.rules c.flags 1 c.ids
+  pub are : AreFlags c.file_option c.flags
   pub defaults : Defaults c
   pub required : (rows : List Row) → list_any (λ a. a.required && not (is_given a.id rows)) c.rules ≡ lacks rows c.ids
 
@@ -291,18 +292,18 @@ module _ (c : Form) where
     pub unused : Each (λ id. row_at id all ≡ None) left
     pub flagged : (flag : Text) → is_in c.flags flag ≡ true → row_at flag all ≡ flag_of flag (not (is_in free flag))
     pub known : (flag : Text) → is_in free flag ≡ true → is_in c.flags flag ≡ true
-    pub are : AreFlags free
-    pub filed : (c.has_file ≡ true → row_at (codes "report") all ≡ row_of (codes "report") file) × (c.has_file ≡ false → is_some file ≡ true)
+    pub are : AreFlags c.file_option free
+    pub filed : (c.has_file ≡ true → row_at c.file_option all ≡ row_of c.file_option file) × (c.has_file ≡ false → is_some file ≡ true)
     pub owes : (final : List Row) → Holds final done → lacks final c.ids ≡ lacks final left
 
   -- and of those at the end
   pub record Gives (seen : Seen) (final : List Row) : Type 0 where
     pub holds : Holds final seen.0
     pub flagged : (flag : Text) → is_in c.flags flag ≡ true → row_at flag final ≡ Some (source_of flag (not (is_in seen.1 flag)))
-    pub filed : c.has_file ≡ true → row_at (codes "report") final ≡ row_of (codes "report") seen.2
+    pub filed : c.has_file ≡ true → row_at c.file_option final ≡ row_of c.file_option seen.2
 
   module _ (all : List Row) (done : Pairs) (left free : List Text) where
-    pub fits_path : (id word : Text) (file : Option Text) → Other id (codes "report" ∷ left) → is_in c.flags id ≡ false
+    pub fits_path : (id word : Text) (file : Option Text) → Other id (c.file_option ∷ left) → is_in c.flags id ≡ false
         → Fits all done (id ∷ left) free file → Fits (all ++ row id word ∷ []) ((id, word) ∷ done) left free file
     fits_path id word file other apart fits = record {
       holds = (newly all r fits.unused.0, holds_more all (r ∷ []) done fits.holds);
@@ -310,22 +311,22 @@ module _ (c : Form) where
       flagged = λ flag is. kept flag all r (flag_apart c.flags flag id apart is) ∙ fits.flagged flag is;
       known = fits.known;
       are = fits.are;
-      filed = (λ so. kept (codes "report") all r other.0 ∙ fits.filed.0 so, fits.filed.1);
+      filed = (λ so. kept c.file_option all r other.0 ∙ fits.filed.0 so, fits.filed.1);
       owes = λ final holds. grind (arith, fits.owes final holds.1, holds.0);
     }
       where
         r : Row
         r = row id word
 
-    pub fits_flag : (flag : Text) (file : Option Text) → is_in free flag ≡ true → row_at flag all ≡ None → Other flag (codes "report" ∷ left)
+    pub fits_flag : (flag : Text) (file : Option Text) → is_in free flag ≡ true → row_at flag all ≡ None → Other flag (c.file_option ∷ left)
         → Fits all done left free file → Fits (all ++ set_row flag ∷ []) done left (closed (45 ∷ 45 ∷ flag) free) file
     fits_flag flag file is none other fits = record {
       holds = holds_more all (r ∷ []) done fits.holds;
       unused = each_kept r all left other.1 fits.unused;
       flagged = λ name of. met name of (bytes_eq flag name) refl;
       known = λ name of. fits.known name (still_open name of);
-      are = are_closed (45 ∷ 45 ∷ flag) free fits.are;
-      filed = (λ so. kept (codes "report") all r other.0 ∙ fits.filed.0 so, fits.filed.1);
+      are = are_closed c.file_option (45 ∷ 45 ∷ flag) free fits.are;
+      filed = (λ so. kept c.file_option all r other.0 ∙ fits.filed.0 so, fits.filed.1);
       owes = fits.owes;
     }
       where
@@ -340,16 +341,16 @@ module _ (c : Form) where
         met name of true e =
             let same : flag ≡ name = (bytes_eq-Decides flag name).0 e in
             subst (λ (n : Text). row_at n (all ++ r ∷ []) ≡ flag_of n (not (is_in (closed (45 ∷ 45 ∷ flag) free) n))) same
-            (newly all r none ∙ ap (λ b. flag_of flag (not b)) (sym (closes flag free fits.are)))
+            (newly all r none ∙ ap (λ b. flag_of flag (not b)) (sym (closes c.file_option flag free fits.are)))
         met name of false e = kept name all r e ∙ fits.flagged name of
             ∙ ap (λ b. flag_of name (not b)) (sym (keeps_open flag name free e))
 
-    pub fits_file : (f : Text) (file : Option Text) → row_at (codes "report") all ≡ None → is_in c.flags (codes "report") ≡ false
-        → Other (codes "report") left → Fits all done left free file → Fits (all ++ row (codes "report") f ∷ []) done left free (Some f)
+    pub fits_file : (f : Text) (file : Option Text) → row_at c.file_option all ≡ None → is_in c.flags c.file_option ≡ false
+        → Other c.file_option left → Fits all done left free file → Fits (all ++ row c.file_option f ∷ []) done left free (Some f)
     fits_file f file none apart other fits = record {
       holds = holds_more all (r ∷ []) done fits.holds;
       unused = each_kept r all left other fits.unused;
-      flagged = λ flag is. kept flag all r (flag_apart c.flags flag (codes "report") apart is) ∙ fits.flagged flag is;
+      flagged = λ flag is. kept flag all r (flag_apart c.flags flag c.file_option apart is) ∙ fits.flagged flag is;
       known = fits.known;
       are = fits.are;
       filed = (λ so. newly all r none, λ so. refl);
@@ -357,7 +358,7 @@ module _ (c : Form) where
     }
       where
         r : Row
-        r = row (codes "report") f
+        r = row c.file_option f
 
 -- ---- the defaults of flags
 
@@ -418,24 +419,24 @@ defaults_flag flags id false all is e = unmet_default flags id all is e
 
 -- ---- the option of a name
 
-option_flag : (flags : List Text) (has_file : Bool) (name : Text) → is_in flags name ≡ true
-    → option_by flags has_file name ≡ Some (flag_filled name)
-option_flag [] has_file name e = absurd (true≢false (sym e))
-option_flag (flag ∷ flags) has_file name e = go (bytes_eq name flag) refl (option_flag flags has_file name)
+option_flag : (opt : Text) (flags : List Text) (has_file : Bool) (name : Text) → is_in flags name ≡ true
+    → option_by opt flags has_file name ≡ Some (flag_filled name)
+option_flag opt [] has_file name e = absurd (true≢false (sym e))
+option_flag opt (flag ∷ flags) has_file name e = go (bytes_eq name flag) refl (option_flag opt flags has_file name)
   where
-    go : (b : Bool) → bytes_eq name flag ≡ b → (is_in flags name ≡ true → option_by flags has_file name ≡ Some (flag_filled name))
-        → option_by (flag ∷ flags) has_file name ≡ Some (flag_filled name)
-    go true same later = subst (λ (x : Text). option_by (x ∷ flags) has_file name ≡ Some (flag_filled name)) ((bytes_eq-Decides name flag).0 same)
-        (ap (λ b. cond (b || false) (Some (flag_filled name)) (option_by flags has_file name)) ((bytes_eq-Decides name name).1 refl))
-    go false other later = ap (λ b. cond (b || false) (Some (flag_filled flag)) (option_by flags has_file name)) (apart_too name flag other)
+    go : (b : Bool) → bytes_eq name flag ≡ b → (is_in flags name ≡ true → option_by opt flags has_file name ≡ Some (flag_filled name))
+        → option_by opt (flag ∷ flags) has_file name ≡ Some (flag_filled name)
+    go true same later = subst (λ (x : Text). option_by opt (x ∷ flags) has_file name ≡ Some (flag_filled name)) ((bytes_eq-Decides name flag).0 same)
+        (ap (λ b. cond (b || false) (Some (flag_filled name)) (option_by opt flags has_file name)) ((bytes_eq-Decides name name).1 refl))
+    go false other later = ap (λ b. cond (b || false) (Some (flag_filled flag)) (option_by opt flags has_file name)) (apart_too name flag other)
         ∙ later (grind (arith, e, other))
 
-option_other : (flags : List Text) (has_file : Bool) (name : Text) → is_in flags name ≡ false
-    → option_by flags has_file name ≡ option_by [] has_file name
-option_other [] has_file name e = refl
-option_other (flag ∷ flags) has_file name e =
-    ap (λ b. cond (b || false) (Some (flag_filled flag)) (option_by flags has_file name)) (apart_too name flag (grind (arith, e)))
-    ∙ option_other flags has_file name (grind (arith, e))
+option_other : (opt : Text) (flags : List Text) (has_file : Bool) (name : Text) → is_in flags name ≡ false
+    → option_by opt flags has_file name ≡ option_by opt [] has_file name
+option_other opt [] has_file name e = refl
+option_other opt (flag ∷ flags) has_file name e =
+    ap (λ b. cond (b || false) (Some (flag_filled flag)) (option_by opt flags has_file name)) (apart_too name flag (grind (arith, e)))
+    ∙ option_other opt flags has_file name (grind (arith, e))
 
 -- ---- faults
 
@@ -521,7 +522,7 @@ module _ (c : Form) (is : IsCommand c) where
   end_faults rows pending p t left stands owes = simp (stands, (is.defaults (now rows pending)).1, is.required, owes)
 
   words_end : (t : Bool) (done : Pairs) (left free : List Text) (file : Option Text) (p : ℕ) (rows : List Row) (pending : Pending)
-      → Paths c.rules c.flags p left → Stands rows pending → fits (now rows pending) done left free file
+      → Paths c.file_option c.rules c.flags p left → Stands rows pending → fits (now rows pending) done left free file
       → AnswersAt (ends (idle_walk (at rows pending) p t)) (idle_walk (at rows pending) p t) (at_end done left free file)
   words_end t done [] free file p rows pending paths stands known =
       let end = ended (now rows pending) free known.flagged in (
@@ -529,7 +530,7 @@ module _ (c : Form) (is : IsCommand c) where
         record {
           holds = end.0 done known.holds;
           flagged = end.2;
-          filed = λ so. end.1 (codes "report") (no_report c.flags is.are) ∙ known.filed.0 so;
+          filed = λ so. end.1 c.file_option (not_flag c.file_option c.flags is.are) ∙ known.filed.0 so;
         },
       )
   words_end t done (id ∷ left) free file p rows pending paths stands known =
@@ -555,17 +556,17 @@ module _ (c : Form) (is : IsCommand c) where
   -- the words answer, wherever the walk over them begins
   abbrev Go : Bool → List Text → Type 0
   Go t rest = (done : Pairs) (left free : List Text) (file : Option Text) (p : ℕ) (rows : List Row) (pending : Pending)
-      → Paths c.rules c.flags p left → Stands rows pending → fits (now rows pending) done left free file
-      → Answers (idle_walk (at rows pending) p t) rest (scan is_taken rest (place_by t) done left free file)
+      → Paths c.file_option c.rules c.flags p left → Stands rows pending → fits (now rows pending) done left free file
+      → Answers (idle_walk (at rows pending) p t) rest (scan c.file_option is_taken rest (place_by t) done left free file)
 
   operand_answers : (t : Bool) (word : Text) (rest : List Text) (done : Pairs) (left free : List Text) (file : Option Text)
       (p : ℕ) (rows : List Row) (pending : Pending)
       → turn_fault s [] (idle_walk (at rows pending) p t) word ≡ step_fault s p (at rows pending) value
       → walked c.rules [] (idle_walk (at rows pending) p t) word
       ≡ to_positional c.rules (arg_by_index c.rules p) word (idle_walk (at rows pending) p t) (at rows pending)
-      → Paths c.rules c.flags p left → Stands rows pending → fits (now rows pending) done left free file → Go t rest
+      → Paths c.file_option c.rules c.flags p left → Stands rows pending → fits (now rows pending) done left free file → Go t rest
       → Answers (idle_walk (at rows pending) p t) (word ∷ rest)
-      (operand_met word (place_by t) done left free file (scan is_taken rest))
+      (operand_met word (place_by t) done left free file (scan c.file_option is_taken rest))
   operand_answers t word rest done [] free file p rows pending turn goes paths stands known later =
       stops (idle_walk (at rows pending) p t) word rest (λ e. grind (arith, turn, paths, e))
   operand_answers t word rest done (id ∷ left) free file p rows pending turn goes paths stands known later =
@@ -581,12 +582,12 @@ module _ (c : Form) (is : IsCommand c) where
   abbrev Bad : List Row → Pending → Type 0
   Bad rows pending = settle_fault c.rules false (at rows pending) ≡ [] → ⊥
 
-  bad_step : (rows : List Row) (pending : Pending) (p : ℕ) (left : List Text) → Paths c.rules c.flags p left → Bad rows pending
+  bad_step : (rows : List Row) (pending : Pending) (p : ℕ) (left : List Text) → Paths c.file_option c.rules c.flags p left → Bad rows pending
       → step_fault s p (at rows pending) value ≡ [] → ⊥
   bad_step rows pending p [] paths bad e = grind (arith, paths, e)
   bad_step rows pending p (id ∷ left) paths bad e = grind (arith, paths.0, bad, e)
 
-  bad_after : (waiting : Waiting) (rows : List Row) (pending : Pending) (p : ℕ) (left rest : List Text) → Paths c.rules c.flags p left
+  bad_after : (waiting : Waiting) (rows : List Row) (pending : Pending) (p : ℕ) (left rest : List Text) → Paths c.file_option c.rules c.flags p left
       → Bad rows pending → fault (walk_with waiting (at rows pending) p true) rest ≡ [] → ⊥
   unfolding walk_fault
   bad_after waiting rows pending p left [] paths bad e = bad (first_nil _ _ e)
@@ -595,7 +596,7 @@ module _ (c : Form) (is : IsCommand c) where
 
   -- the word has to be a value of what is pending
   bad_word : (waiting : Waiting) (word : Text) (rest left : List Text) (rows : List Row) (pending : Pending) (p : ℕ) (o : Option Seen)
-      → subcommand_met [] waiting word ≡ None → Paths c.rules c.flags p left → Bad rows pending → let w = walk_with waiting (at rows pending) p false in
+      → subcommand_met [] waiting word ≡ None → Paths c.file_option c.rules c.flags p left → Bad rows pending → let w = walk_with waiting (at rows pending) p false in
       (Turn s asks [] waiting rows pending p word [] (plain_word c.rules waiting word (at rows pending)) → Answers w (word ∷ rest) o)
       → Answers w (word ∷ rest) (cond (is_taken word) o None)
   bad_word waiting word rest left rows pending p o none paths bad bare =
@@ -608,7 +609,7 @@ module _ (c : Form) (is : IsCommand c) where
       bad (long_settles c.rules (arg_by_long c.rules q.0) q.1 (at rows pending) (first_nil _ _ (sym turn.0 ∙ e)))))
       bare (λ fails. stops w word rest fails)
 
-  bad_before : (rows : List Row) (pending : Pending) (p : ℕ) (left rest : List Text) → Paths c.rules c.flags p left
+  bad_before : (rows : List Row) (pending : Pending) (p : ℕ) (left rest : List Text) → Paths c.file_option c.rules c.flags p left
       → Bad rows pending → fault (idle_walk (at rows pending) p false) rest ≡ [] → ⊥
   unfolding walk_fault
   bad_before rows pending p left [] paths bad = λ e. bad (first_nil _ _ e)
@@ -617,51 +618,52 @@ module _ (c : Form) (is : IsCommand c) where
       subst (Answers w (word ∷ rest)) (either (is_taken word) None) (bad_word idle word rest left rows pending p None refl paths bad
       (λ turn. stops w word rest (λ e. bad_step rows pending p left paths bad (sym turn.0 ∙ e))))
 
-  -- ---- the word behind `--report`
+  -- ---- the word behind the option that has a file
 
   abbrev file_pending : List Text → Pending
-  file_pending words = Some (codes "report", words)
+  file_pending words = Some (c.file_option, words)
 
   abbrev pub waits : List Row → ℕ → Walk
-  waits all p = walk_with (option (codes "report")) (at all (file_pending [])) p false
+  waits all p = walk_with (option c.file_option) (at all (file_pending [])) p false
 
-  report_is : c.has_file ≡ true → arg_by_id c.rules (codes "report") ≡ Some report_filled
-  report_is so = is.report ∙ ap (λ b. cond b (Some report_filled) None) so
+  option_is : c.has_file ≡ true → arg_by_id c.rules c.file_option ≡ Some (file_filled c.file_option)
+  option_is so = is.by_option ∙ ap (λ b. cond b (Some (file_filled c.file_option)) None) so
 
   unnamed_bad : (all : List Row) → c.has_file ≡ true → Bad all (file_pending [])
-  unnamed_bad all so e = grind (arith, is.report, so, e)
+  unnamed_bad all so e = grind (arith, is.by_option, so, e)
 
   named_so : (word : Text) (rest left : List Text) (p : ℕ) (all : List Row) (o : Option Seen) → c.has_file ≡ true
-      → Paths c.rules c.flags p left → Answers (idle_walk (at all (file_pending (word ∷ []))) p false) rest o
+      → Paths c.file_option c.rules c.flags p left → Answers (idle_walk (at all (file_pending (word ∷ []))) p false) rest o
       → Answers (waits all p) (word ∷ rest) (cond (is_taken word) o None)
   named_so word rest left p all o so paths later =
-      bad_word (option (codes "report")) word rest left all (file_pending []) p o refl paths (unnamed_bad all so) (λ turn.
+      let same = (bytes_eq-Decides c.file_option c.file_option).1 refl in
+      bad_word (option c.file_option) word rest left all (file_pending []) p o refl paths (unnamed_bad all so) (λ turn.
       passes (waits all p) (idle_walk (at all (file_pending (word ∷ []))) p false) word rest o
-      (grind (arith, turn.0, report_is so)) (grind (arith, turn.1, report_is so)) later)
+      (grind (arith, turn.0, option_is so)) (grind (arith, turn.1, option_is so, same)) later)
 
   -- ---- the words
 
-  -- of a second `--report` the file is refused
+  -- of a second such option the file is refused
   abbrev Wait : List Text → Type 0
   Wait rest = (done : Pairs) (left free : List Text) (file : Option Text) (p : ℕ) (all : List Row) → c.has_file ≡ true
-      → Paths c.rules c.flags p left → fits all done left free file
-      → Answers (waits all p) rest (cond (is_some file) None (scan is_taken rest naming done left free None))
+      → Paths c.file_option c.rules c.flags p left → fits all done left free file
+      → Answers (waits all p) rest (cond (is_some file) None (scan c.file_option is_taken rest naming done left free None))
 
-  others : (flag : Text) → is_in c.flags flag ≡ true → (left : List Text) (p : ℕ) → Paths c.rules c.flags p left → Other flag left
+  others : (flag : Text) → is_in c.flags flag ≡ true → (left : List Text) (p : ℕ) → Paths c.file_option c.rules c.flags p left → Other flag left
   others flag of [] p paths = tt
   others flag of (id ∷ left) p paths =
       (apart_too id flag (flag_apart c.flags flag id paths.3 of), others flag of left (min (p + 1) usize_max) paths.5)
 
-  file_others : (left : List Text) (p : ℕ) → Paths c.rules c.flags p left → Other (codes "report") left
+  file_others : (left : List Text) (p : ℕ) → Paths c.file_option c.rules c.flags p left → Other c.file_option left
   file_others [] p paths = tt
   file_others (id ∷ left) p paths = (paths.4, file_others left (min (p + 1) usize_max) paths.5)
 
-  -- a flag isn't the report's option
-  flag_no_report : (flag : Text) → is_in c.flags flag ≡ true → bytes_eq flag (codes "report") ≡ false
-  flag_no_report flag of = apart_too (codes "report") flag (flag_apart c.flags flag (codes "report") (no_report c.flags is.are) of)
+  -- a flag isn't the option that has a file
+  flag_no_option : (flag : Text) → is_in c.flags flag ≡ true → bytes_eq flag c.file_option ≡ false
+  flag_no_option flag of = apart_too c.file_option flag (flag_apart c.flags flag c.file_option (not_flag c.file_option c.flags is.are) of)
 
   module _ (word : Text) (rest : List Text) (done : Pairs) (left : List Text) (p : ℕ) (rows : List Row) (pending : Pending)
-      (paths : Paths c.rules c.flags p left) (stands : Stands rows pending) (goes_on : Go false rest) (waits_on : Wait rest) where
+      (paths : Paths c.file_option c.rules c.flags p left) (stands : Stands rows pending) (goes_on : Go false rest) (waits_on : Wait rest) where
     abbrev so_far : List Row
     so_far = now rows pending
 
@@ -669,7 +671,7 @@ module _ (c : Form) (is : IsCommand c) where
     w = idle_walk (at rows pending) p false
 
     abbrev After : Bool → Bool → Option (Option Text) → Bool → List Text → Option Text → Type 0
-    After d f r a free file = Answers w (word ∷ rest) (word_met d f r a word done left free file (scan is_taken rest))
+    After d f r a free file = Answers w (word ∷ rest) (word_met d f r a word done left free file (scan c.file_option is_taken rest))
 
     abbrev Turned : Option Text → Option Rule → Type 0
     Turned v a = let m = clap_long_met c.rules a v (at rows pending) in
@@ -696,9 +698,9 @@ module _ (c : Form) (is : IsCommand c) where
         less = closed (45 ∷ 45 ∷ name) free
 
         first : is_in free name ≡ true → row_at name so_far ≡ None → Answers (idle_walk (at (so_far ++ set_row name ∷ []) None) p false) rest
-            (scan is_taken rest before done left less file)
+            (scan c.file_option is_taken rest before done left less file)
         first e none = goes_on done left less file p (so_far ++ set_row name ∷ []) None paths refl
-            (fits_flag c so_far done left free name file e none (flag_no_report name of, others name of left p paths) known)
+            (fits_flag c so_far done left free name file e none (flag_no_option name of, others name of left p paths) known)
 
         met : (b : Bool) → is_in free name ≡ b → row_at name so_far ≡ flag_of name (not b)
         met b e = known.flagged name of ∙ ap (λ x. flag_of name (not x)) e
@@ -707,21 +709,21 @@ module _ (c : Form) (is : IsCommand c) where
         not_none e = cc
 
         go : (b : Bool) → is_in free name ≡ b → After false (b && true) None false free file
-        go true e = subst (λ (x : Text). Answers w (word ∷ rest) (scan is_taken rest before done left (closed x free) file))
+        go true e = subst (λ (x : Text). Answers w (word ∷ rest) (scan c.file_option is_taken rest before done left (closed x free) file))
             (sym (long_text word name is_long))
             (used name (set_row name).reading (codes "true" ∷ []) false (set_row name) _ turn (met true e) (first e))
         go false e = used name (set_row name).reading (codes "true" ∷ []) true (set_row name) None turn (met false e)
             (λ none. absurd (not_none (sym none ∙ met false e)))
 
-    file_met : (v : Option Text) (free : List Text) (file : Option Text) → fits so_far done left free file → Turned v (Some report_filled)
+    file_met : (v : Option Text) (free : List Text) (file : Option Text) → fits so_far done left free file → Turned v (Some (file_filled c.file_option))
         → c.has_file ≡ true → After false false (Some v) false free file
     file_met None free file known turn so =
         passes w (waits so_far p) word rest _ (turn.0 ∙ ap (λ k. or_else k []) stands) turn.1
         (waits_on done left free file p so_far so paths known)
-    file_met (Some f) free file known turn so = used (codes "report") (row (codes "report") f).reading (f ∷ []) (is_some file)
-        (row (codes "report") (unwrap_or file [])) _ turn (known.filed.0 so)
-        (λ none. goes_on done left free (Some f) p (so_far ++ row (codes "report") f ∷ []) None paths refl
-        (fits_file c so_far done left free f file none (no_report c.flags is.are) (file_others left p paths) known))
+    file_met (Some f) free file known turn so = used c.file_option (row c.file_option f).reading (f ∷ []) (is_some file)
+        (row c.file_option (unwrap_or file [])) _ turn (known.filed.0 so)
+        (λ none. goes_on done left free (Some f) p (so_far ++ row c.file_option f ∷ []) None paths refl
+        (fits_file c so_far done left free f file none (not_flag c.file_option c.flags is.are) (file_others left p paths) known))
 
     no_option : (b : Bool) (v : Option Text) → Turned v (cond b (Some help) None) → fault w (word ∷ rest) ≡ [] → ⊥
     no_option b v turn = stops w word rest (λ e. shown_long c.rules b false v (at rows pending) (first_nil _ _ (sym turn.0 ∙ e)))
@@ -740,9 +742,9 @@ module _ (c : Form) (is : IsCommand c) where
         go false = refused
 
     other_long : (name : Text) (v : Option Text) (free : List Text) (file : Option Text) → fits so_far done left free file
-        → (r : Bool) → bytes_eq (codes "report") name ≡ r → (hr : Bool) → c.has_file ≡ hr
+        → (r : Bool) → bytes_eq c.file_option name ≡ r → (hr : Bool) → c.has_file ≡ hr
         → Turned v (let other = cond (bytes_eq (codes "help") name || false) (Some help) None in
-        cond (r || false) (cond hr (Some report_filled) other) other)
+        cond (r || false) (cond hr (Some (file_filled c.file_option)) other) other)
         → After false false (cond r (Some v) None) false free file
     other_long name v free file known true re true hr turn = file_met v free file known turn hr
     other_long name v free (Some g) known true re false hr turn = no_option _ v turn
@@ -750,8 +752,8 @@ module _ (c : Form) (is : IsCommand c) where
     other_long name v free file known false re hr hre turn = no_option _ v turn
 
     long_answers : (name : Text) (v : Option Text) (free : List Text) (file : Option Text) → fits so_far done left free file
-        → long_of word ≡ Some (name, v) → Turned v (option_by c.flags c.has_file name)
-        → After false (is_in free name && not (is_some v)) (cond (bytes_eq (codes "report") name) (Some v) None) false free file
+        → long_of word ≡ Some (name, v) → Turned v (option_by c.file_option c.flags c.has_file name)
+        → After false (is_in free name && not (is_some v)) (cond (bytes_eq c.file_option name) (Some v) None) false free file
     long_answers name v free file known is_long turn = go (is_in c.flags name) refl
       where
         never : is_in c.flags name ≡ false → (b : Bool) → is_in free name ≡ b → is_in free name ≡ false
@@ -759,19 +761,19 @@ module _ (c : Form) (is : IsCommand c) where
         never none false e = e
 
         go : (b : Bool) → is_in c.flags name ≡ b
-            → After false (is_in free name && not (is_some v)) (cond (bytes_eq (codes "report") name) (Some v) None) false free file
-        go true of = rw (apart_too name (codes "report") (flag_no_report name of))
-            (flag_long name v free file known is_long (subst (Turned v) (option_flag c.flags c.has_file name of) turn) of)
+            → After false (is_in free name && not (is_some v)) (cond (bytes_eq c.file_option name) (Some v) None) false free file
+        go true of = rw (apart_too name c.file_option (flag_no_option name of))
+            (flag_long name v free file known is_long (subst (Turned v) (option_flag c.file_option c.flags c.has_file name of) turn) of)
         go false none = rw (never none (is_in free name) refl)
-            (other_long name v free file known (bytes_eq (codes "report") name) refl c.has_file refl
-            (subst (Turned v) (option_other c.flags c.has_file name none) turn))
+            (other_long name v free file known (bytes_eq c.file_option name) refl c.has_file refl
+            (subst (Turned v) (option_other c.file_option c.flags c.has_file name none) turn))
 
     word_answers : (free : List Text) (file : Option Text) → fits so_far done left free file → Go true rest
-        → After (bytes_eq word (codes "--")) (is_open free word) (as_report word) (is_taken word) free file
+        → After (bytes_eq word (codes "--")) (is_open free word) (as_option c.file_option word) (is_taken word) free file
     word_answers free file known trails =
-        rw (flag_word free known.are word)
+        rw (flag_word c.file_option free known.are word)
         (by_word s asks [] idle rows pending p word refl
-        (λ d q b. After d (is_flag_in free q) (report_option q) (not d && (not (is_some q) && b)) free file)
+        (λ d q b. After d (is_flag_in free q) (option_named c.file_option q) (not d && (not (is_some q) && b)) free file)
         (λ q b turn. passes w (idle_walk (at rows pending) p true) word rest _ turn.0 turn.1
         (trails done left free file p rows pending paths stands known))
         (λ q b is_long turn. long_answers q.0 q.1 free file known is_long (subst (Turned q.1) (is.longs q.0) turn))
@@ -796,10 +798,10 @@ module _ (c : Form) (is : IsCommand c) where
     named [] done left free file p all so paths known =
         subst (Answers (waits all p) []) (sym (either (is_some file) None)) (λ e. unnamed_bad all so (first_nil _ _ e))
     named (word ∷ rest) done left free None p all so paths known = named_so word rest left p all _ so paths
-        (let pends = pends (codes "report") word report_filled all (report_is so) (known.filed.0 so) refl refl in
+        (let pends = pends c.file_option word (file_filled c.file_option) all (option_is so) (known.filed.0 so) refl refl in
         parsed false rest done left free (Some word) p all (file_pending (word ∷ [])) paths pends.0
-        (rw pends.1 (fits_file c all done left free word None (known.filed.0 so) (no_report c.flags is.are) (file_others left p paths) known)))
+        (rw pends.1 (fits_file c all done left free word None (known.filed.0 so) (not_flag c.file_option c.flags is.are) (file_others left p paths) known)))
     named (word ∷ rest) done left free (Some file) p all so paths known =
         subst (Answers (waits all p) (word ∷ rest)) (either (is_taken word) None) (named_so word rest left p all None so paths
         (bad_before all (file_pending (word ∷ [])) p left rest paths
-        (λ e. grind (arith, is.report, so, known.filed.0, has_row-at (codes "report") all, e))))
+        (λ e. grind (arith, is.by_option, so, known.filed.0, has_row-at c.file_option all, e))))

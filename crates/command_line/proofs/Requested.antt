@@ -1,7 +1,7 @@
 -- The theorem of the command line: words that clap parses request the task that is made of its matches
 -- (`task_requested`), and words that are a task are never refused but for memory (`words_pass`).
 -- `Words` has the pass over the words of a subcommand, which finds what the definitions say, and `Parse` shows
--- that clap finds the same, for each command of one form; the four subcommands are such.
+-- that clap finds the same, for each command of one form; the five subcommands are such.
 use Rattle.std.proofs.Common.{◌==◌, ◌||◌, ◌∙◌, ◌∷◌, ◌≡◌, [], ℕ, Bool, List, None, Option, Some, ap, codes, cond, false, is_some, refl, rules, subst, sym, true, true≢false}
 use Rattle.std.proofs.Common.{arith, ◌&&◌, not, length, fold, map, option_map, option_and_then, slice_get, slice_index_or, bytes_eq}
 use Rattle.std.proofs.Math.Bool.{or-true}
@@ -18,18 +18,18 @@ use Rattle.command_line.specs.steps.Program.{program_app}
 use Rattle.command_line.proofs.Parse.{Defaults, Fits, Form, Gives, IsCommand, Paths, by_word, either, first_nil, flag_of, idle_walk, leaf, not_nil, option_by}
 use Rattle.command_line.proofs.Parse.{shown_long, then_nil, Holds, row_of, AnswersAt, parsed}
 use Rattle.command_line.proofs.Words.{AreFlags, Seen, before, is_in, is_taken, met_in, scan, Pairs, formed_found, found_said, is_formed}
-use Rattle.command_line.proofs.Words.{pairs, seen_of, without_option, words_of}
+use Rattle.command_line.proofs.Words.{pairs, seen_of, file_of as said_of, without_option, words_of}
 use Rattle.std.specs.Borrow.{Bor}
 use Rattle.clap.specs.declared.error.Error.{Error}
 use Rattle.clap.specs.declared.parser.matches.ArgMatches.{ArgMatches}
 use Rattle.clap.specs.declared.parser.matches.Found.{Found}
-use Rattle.command_line.specs.CommandLine.{AreTexts, RequestsTask, are_operands, check_flags, explaining_by, explaining_in, has_flag, is_check, is_explain, is_reach}
-use Rattle.command_line.specs.CommandLine.{is_run, is_well_formed, names_file, operands, reach_flags, report_of, run_flags, without_flags, without_report}
+use Rattle.command_line.specs.CommandLine.{AreTexts, RequestsTask, are_operands, assume_name, check_flags, diff_flags, explaining_by, explaining_in, has_flag, is_check}
+use Rattle.command_line.specs.CommandLine.{is_diff, is_explain, is_reach, is_run, is_well_formed, names_file, operands, reach_flags, report_name, run_flags, without_file, without_flags}
 use Rattle.command_line.specs.steps.Given.{Contradicts, GivesExplaining, GivesTask, Sets, value_at}
 use Rattle.command_line.specs.declared.tasks.Explaining.{Explaining}
 use Rattle.command_line.specs.declared.tasks.Task.{Task}
-use Rattle.command_line.specs.declared.tasks.Task.TheVariants.{Check, Explain, Reach, Run}
-use Rattle.clap.specs.Words.{found_of, subcommand_name_of, kind_of, fault_of, is_simple_and_free}
+use Rattle.command_line.specs.declared.tasks.Task.TheVariants.{Check, Diff, Explain, Reach, Run}
+use Rattle.clap.specs.Words.{first_value, found_of, subcommand_name_of, kind_of, fault_of, is_simple_and_free}
 
 abbrev pub whole : App
 whole = built program_app
@@ -51,6 +51,7 @@ run_form = record {
   rules = (sub 0).rules;
   ids = codes "rules" ∷ codes "plant" ∷ codes "input" ∷ codes "output" ∷ [];
   flags = codes "trace" ∷ codes "explain" ∷ codes "no-explain" ∷ [];
+  file_option = report_name;
   has_file = true;
   file = None;
 }
@@ -62,6 +63,7 @@ check_form = record {
   rules = (sub 1).rules;
   ids = codes "rules" ∷ codes "plant" ∷ [];
   flags = codes "all" ∷ codes "explain" ∷ codes "no-explain" ∷ codes "nft" ∷ [];
+  file_option = report_name;
   has_file = false;
   file = Some [];
 }
@@ -69,18 +71,29 @@ check_form = record {
 abbrev pub reach_form : Form
 reach_form = record check_form { name = codes "reach"; rules = (sub 2).rules; flags = codes "sets" ∷ codes "explain" ∷ codes "no-explain" ∷ [] }
 
+abbrev pub diff_form : Form
+diff_form = record {
+  name = codes "diff";
+  rules = (sub 3).rules;
+  ids = codes "old" ∷ codes "new" ∷ codes "plant" ∷ [];
+  flags = codes "explain" ∷ codes "no-explain" ∷ [];
+  file_option = assume_name;
+  has_file = true;
+  file = None;
+}
+
 abbrev pub explain_form : Form
-explain_form = record check_form { name = codes "explain"; rules = (sub 3).rules; ids = codes "code" ∷ []; flags = [] }
+explain_form = record check_form { name = codes "explain"; rules = (sub 4).rules; ids = codes "code" ∷ []; flags = [] }
 
 -- the pass over the words of a subcommand
 abbrev pub found_in : Form → List Text → Option Seen
-found_in c rest = scan is_taken rest before [] c.ids c.flags c.file
+found_in c rest = scan c.file_option is_taken rest before [] c.ids c.flags c.file
 
 -- the words are well-formed, and these are the rows of what they say
 abbrev pub Took : Form → List Text → List Row → Type 0
-Took c rest rows = ((length (operands (words_of c.flags c.file rest)) == length c.ids) ≡ true)
-    × (AreTexts rest → is_formed c.ids c.flags c.file rest ≡ true)
-    × Gives c (seen_of [] c.ids c.flags c.file rest) rows
+Took c rest rows = ((length (operands (words_of c.file_option c.flags c.file rest)) == length c.ids) ≡ true)
+    × (AreTexts rest → is_formed c.file_option c.ids c.flags c.file rest ≡ true)
+    × Gives c (seen_of c.file_option [] c.ids c.flags c.file rest) rows
 
 abbrev level : Form → List Text → Kinds
 level c rest = level_fault (leaf c.name c.rules) [] nothing_held rest false []
@@ -133,7 +146,7 @@ pub run_sub : IsSubcommand run_form
 unfolding clap_on_literals defaults_fault
 run_sub =
     let defaults : Defaults run_form = λ all. (simp either, simp (or-true, either)) in
-    let are : AreFlags run_form.flags = search rules in
+    let are : AreFlags report_name run_form.flags = search rules in
     let begins : Fits run_form [] [] run_form.ids run_form.flags run_form.file =
     search (rules, not_met run_form.flags, are) in
     search (rules, are, defaults, begins, enters run_form)
@@ -141,29 +154,38 @@ run_sub =
 pub check_sub : IsSubcommand check_form
 unfolding clap_on_literals defaults_fault
 check_sub =
-    let longs : (name : Text) → arg_by_long (sub 1).rules name ≡ option_by check_form.flags false name = λ name. simp either in
+    let longs : (name : Text) → arg_by_long (sub 1).rules name ≡ option_by report_name check_form.flags false name = λ name. simp either in
     let defaults : Defaults check_form = λ all. (simp either, simp (or-true, either)) in
-    let are : AreFlags check_form.flags = search rules in
+    let are : AreFlags report_name check_form.flags = search rules in
     let begins : Fits check_form [] [] check_form.ids check_form.flags check_form.file =
     search (rules, not_met check_form.flags, are) in
-    let paths : Paths check_form.rules check_form.flags 1 check_form.ids = search rules in
+    let paths : Paths report_name check_form.rules check_form.flags 1 check_form.ids = search rules in
     search (rules, longs, are, defaults, begins, paths, enters check_form)
 
 pub reach_sub : IsSubcommand reach_form
 unfolding clap_on_literals defaults_fault
 reach_sub =
-    let longs : (name : Text) → arg_by_long (sub 2).rules name ≡ option_by reach_form.flags false name = λ name. simp either in
+    let longs : (name : Text) → arg_by_long (sub 2).rules name ≡ option_by report_name reach_form.flags false name = λ name. simp either in
     let defaults : Defaults reach_form = λ all. (simp either, simp (or-true, either)) in
-    let are : AreFlags reach_form.flags = search rules in
+    let are : AreFlags report_name reach_form.flags = search rules in
     let begins : Fits reach_form [] [] reach_form.ids reach_form.flags reach_form.file =
     search (rules, not_met reach_form.flags, are) in
-    let paths : Paths reach_form.rules reach_form.flags 1 reach_form.ids = search rules in
+    let paths : Paths report_name reach_form.rules reach_form.flags 1 reach_form.ids = search rules in
     search (rules, longs, are, defaults, begins, paths, enters reach_form)
+
+pub diff_sub : IsSubcommand diff_form
+unfolding clap_on_literals defaults_fault
+diff_sub =
+    let defaults : Defaults diff_form = λ all. (simp either, simp (or-true, either)) in
+    let are : AreFlags assume_name diff_form.flags = search rules in
+    let begins : Fits diff_form [] [] diff_form.ids diff_form.flags diff_form.file =
+    search (rules, not_met diff_form.flags, are) in
+    search (rules, are, defaults, begins, enters diff_form)
 
 pub explain_sub : IsSubcommand explain_form
 unfolding clap_on_literals defaults_fault
 explain_sub =
-    let longs : (name : Text) → arg_by_long (sub 3).rules name ≡ option_by [] false name = λ name. simp either in
+    let longs : (name : Text) → arg_by_long (sub 4).rules name ≡ option_by report_name [] false name = λ name. simp either in
     let defaults : Defaults explain_form = λ all. (simp either, simp or-true) in
     let begins : Fits explain_form [] [] explain_form.ids explain_form.flags explain_form.file =
     search (rules, not_met explain_form.flags) in
@@ -201,13 +223,14 @@ module _ (program word : Text) (rest : List Text) (e : fault_of program_app (pro
 
 -- ---- the words of a task
 
--- the form of a subcommand, by whether its name is `check`, `reach` and `explain`
-abbrev pub by_name : Bool → Bool → Bool → Form
-by_name c r x = cond c check_form (cond r reach_form (cond x explain_form run_form))
+-- the form of a subcommand, by whether its name is `check`, `reach`, `diff` and `explain`
+abbrev pub by_name : Bool → Bool → Bool → Bool → Form
+by_name c r d x = cond c check_form (cond r reach_form (cond d diff_form (cond x explain_form run_form)))
 
 -- the form of the subcommand of this name
 abbrev pub form_of : Text → Form
-form_of name = by_name (bytes_eq name (codes "check")) (bytes_eq name (codes "reach")) (bytes_eq name (codes "explain"))
+form_of name = by_name (bytes_eq name (codes "check")) (bytes_eq name (codes "reach")) (bytes_eq name (codes "diff"))
+    (bytes_eq name (codes "explain"))
 
 -- words of a subcommand of this name, with these rows
 abbrev pub HasRead : List Text → Text → List Row → Type 0
@@ -237,14 +260,14 @@ module _ (c : Form) (is : IsSubcommand c) (program word : Text) (rest : List Tex
       go : (o : Option Seen) → found_in c rest ≡ o → Answer o → level c rest ≡ [] → Took c rest (rows_after c.rules [] rest)
       go None found a e = absurd (a e)
       go (Some seen) found a e =
-          let said = found_said c.flags is.command.are rest c.ids c.file seen found in
+          let said = found_said c.file_option c.flags is.command.are rest c.ids c.file seen found in
           (said.0, said.1, subst (λ (m : Seen). Gives c m (rows_after c.rules [] rest)) (sym said.2) a.1)
 
   -- well-formed words of this name have no fault
-  words_fit : (bytes_eq word c.name && is_formed c.ids c.flags c.file rest) ≡ true
+  words_fit : (bytes_eq word c.name && is_formed c.file_option c.ids c.flags c.file rest) ≡ true
       → fault_of program_app (program ∷ word ∷ rest) ≡ []
   words_fit e =
-      let found = formed_found c.flags is.command.are rest c.ids c.file in
+      let found = formed_found c.file_option c.flags is.command.are rest c.ids c.file in
       grind (arith, e, bytes_eq-Decides word c.name, (is.enters program rest).0, found, answer)
 
 pub task_read : (words : List Text) → fault_of program_app words ≡ [] → IsRead words
@@ -253,17 +276,19 @@ task_read [] e = not_nil _ _ e
 task_read (program ∷ []) e = not_nil _ _ e
 task_read (program ∷ word ∷ rest) e =
     go (bytes_eq (codes "run") word) refl (bytes_eq (codes "check") word) refl (bytes_eq (codes "reach") word) refl
-    (bytes_eq (codes "explain") word) refl (bytes_eq (codes "help") word) refl
+    (bytes_eq (codes "diff") word) refl (bytes_eq (codes "explain") word) refl (bytes_eq (codes "help") word) refl
   where
     go : (r : Bool) → bytes_eq (codes "run") word ≡ r → (c : Bool) → bytes_eq (codes "check") word ≡ c
-        → (a : Bool) → bytes_eq (codes "reach") word ≡ a → (x : Bool) → bytes_eq (codes "explain") word ≡ x
-        → (h : Bool) → bytes_eq (codes "help") word ≡ h → IsRead (program ∷ word ∷ rest)
-    go true is c f a k x g h met = read_as run_form run_sub program word rest refl is e
-    go false is true f a k x g h met = read_as check_form check_sub program word rest refl f e
-    go false is false f true k x g h met = read_as reach_form reach_sub program word rest refl k e
-    go false is false f false k true g h met = read_as explain_form explain_sub program word rest refl g e
-    go false is false f false k false g true h = grind (arith, is, f, k, g, h, (no_fault program word rest e).0)
-    go false is false f false k false g false h = absurd (stranger program word rest e (grind (arith, is, f, k, g, h)))
+        → (a : Bool) → bytes_eq (codes "reach") word ≡ a → (d : Bool) → bytes_eq (codes "diff") word ≡ d
+        → (x : Bool) → bytes_eq (codes "explain") word ≡ x → (h : Bool) → bytes_eq (codes "help") word ≡ h
+        → IsRead (program ∷ word ∷ rest)
+    go true is c f a k d l x g h met = read_as run_form run_sub program word rest refl is e
+    go false is true f a k d l x g h met = read_as check_form check_sub program word rest refl f e
+    go false is false f true k d l x g h met = read_as reach_form reach_sub program word rest refl k e
+    go false is false f false k true l x g h met = read_as diff_form diff_sub program word rest refl l e
+    go false is false f false k false l true g h met = read_as explain_form explain_sub program word rest refl g e
+    go false is false f false k false l false g true h = grind (arith, is, f, k, l, g, h, (no_fault program word rest e).0)
+    go false is false f false k false l false g false h = absurd (stranger program word rest e (grind (arith, is, f, k, l, g, h)))
 
 -- what else is asked of well-formed words clap doesn't see
 drop_last : (a b c d : Bool) → (a && (b && (c && d))) ≡ true → (a && (b && c)) ≡ true
@@ -272,20 +297,26 @@ drop_last a b c d e = grind (arith, e)
 pub words_pass : (words : List Text) → is_well_formed words ≡ true → fault_of program_app words ≡ []
 words_pass (program ∷ name ∷ rest) e =
     go (bytes_eq name (codes "run") && is_run rest) refl (bytes_eq name (codes "check") && is_check rest) refl
-    (bytes_eq name (codes "reach") && is_reach rest) refl
+    (bytes_eq name (codes "reach") && is_reach rest) refl (bytes_eq name (codes "diff") && is_diff rest) refl
   where
     go : (r : Bool) → (bytes_eq name (codes "run") && is_run rest) ≡ r
         → (c : Bool) → (bytes_eq name (codes "check") && is_check rest) ≡ c
-        → (a : Bool) → (bytes_eq name (codes "reach") && is_reach rest) ≡ a → fault_of program_app (program ∷ name ∷ rest) ≡ []
-    go true f c g a h = words_fit run_form run_sub program name rest
-        (drop_last (bytes_eq name (codes "run")) (names_file rest) (are_operands 4 (without_flags run_flags (without_report rest)))
-        (is_some (explaining_in (without_report rest))) f)
-    go false f true g a h = words_fit check_form check_sub program name rest
+        → (a : Bool) → (bytes_eq name (codes "reach") && is_reach rest) ≡ a
+        → (d : Bool) → (bytes_eq name (codes "diff") && is_diff rest) ≡ d → fault_of program_app (program ∷ name ∷ rest) ≡ []
+    go true f c g a h d k = words_fit run_form run_sub program name rest
+        (drop_last (bytes_eq name (codes "run")) (names_file report_name rest)
+        (are_operands 4 (without_flags run_flags (without_file report_name rest)))
+        (is_some (explaining_in (without_file report_name rest))) f)
+    go false f true g a h d k = words_fit check_form check_sub program name rest
         (drop_last (bytes_eq name (codes "check")) true (are_operands 2 (without_flags check_flags rest)) (is_some (explaining_in rest)) g)
-    go false f false g true h = words_fit reach_form reach_sub program name rest
+    go false f false g true h d k = words_fit reach_form reach_sub program name rest
         (drop_last (bytes_eq name (codes "reach")) true (are_operands 2 (without_flags reach_flags rest)) (is_some (explaining_in rest)) h)
-    go false f false g false h = words_fit explain_form explain_sub program name rest
-        (sym (λ j. f j || (g j || (h j || (bytes_eq name (codes "explain") && is_explain rest)))) ∙ e)
+    go false f false g false h true k = words_fit diff_form diff_sub program name rest
+        (drop_last (bytes_eq name (codes "diff")) (names_file assume_name rest)
+        (are_operands 3 (without_flags diff_flags (without_file assume_name rest)))
+        (is_some (explaining_in (without_file assume_name rest))) k)
+    go false f false g false h false k = words_fit explain_form explain_sub program name rest
+        (sym (λ j. f j || (g j || (h j || (k j || (bytes_eq name (codes "explain") && is_explain rest))))) ∙ e)
 words_pass (program ∷ []) e = absurd (true≢false (sym e))
 words_pass [] e = absurd (true≢false (sym e))
 
@@ -324,8 +355,8 @@ values f done [] [] e holds = (refl, holds)
 values f done (id ∷ ids) (word ∷ ops) e holds = grind (arith, values f ((id, word) ∷ done) ids ops, e, holds, first_value-rows f id)
 values f done ids ops e holds = grind arith
 
-file_of : (file : Option Text) → option_and_then (λ (r : Row). slice_get r.values 0) (row_of (codes "report") file) ≡ file
-file_of file = grind arith
+file_of : (opt : Text) (file : Option Text) → option_and_then (λ (r : Row). slice_get r.values 0) (row_of opt file) ≡ file
+file_of opt file = grind arith
 
 -- ---- the subcommand, and its task
 
@@ -337,38 +368,42 @@ module _ (words : List Text) (name : Text) (f : Found) (got : HasRead words name
   taken c of = subst Taken of (got.2 ∙ ap (λ (n : Text). got.0 ∷ n ∷ got.1) got.3, got.4)
 
   module _ (c : Form) (is : IsSubcommand c) (t : Taken c) where
-    paths_are : operands (words_of c.flags c.file got.1) ≡ map (value_at f) c.ids
-    paths_are = (values f [] c.ids (operands (words_of c.flags c.file got.1)) t.1.0 t.1.2.holds).0
+    paths_are : operands (words_of c.file_option c.flags c.file got.1) ≡ map (value_at f) c.ids
+    paths_are = (values f [] c.ids (operands (words_of c.file_option c.flags c.file got.1)) t.1.0 t.1.2.holds).0
 
     -- the words in which flags are looked for
     abbrev flagged : List Text
-    flagged = without_option c.file got.1
+    flagged = without_option c.file_option c.file got.1
 
     flag_is : (flag : Text) (b : Bool) → is_in c.flags flag ≡ true → Sets f flag b → b ≡ has_flag (45 ∷ 45 ∷ flag) flagged
     flag_is flag b of sets = grind (arith, one_text-rows f flag, t.1.2.flagged flag of, sets.0, sets.1)
-        ∙ met_in c.flags is.command.are flag flagged of
+        ∙ met_in c.file_option c.flags is.command.are flag flagged of
 
     explaining_is : (o : Option Explaining) → is_in c.flags (codes "explain") ≡ true → is_in c.flags (codes "no-explain") ≡ true
         → GivesExplaining f o → o ≡ explaining_in flagged
     explaining_is o always never gives = gives.4
         ∙ (λ j. explaining_by (flag_is (codes "explain") gives.0 always gives.2 j) (flag_is (codes "no-explain") gives.1 never gives.3 j))
 
+    file_is : c.has_file ≡ true → first_value f c.file_option ≡ said_of c.file_option c.file got.1
+    file_is so = first_value-rows f c.file_option ∙ ap (option_and_then (λ (r : Row). slice_get r.values 0)) (t.1.2.filed so)
+        ∙ file_of c.file_option (said_of c.file_option c.file got.1)
+
   -- the task is the one that the words request
   pub task_requested : (task : Task) → GivesTask name f task → RequestsTask words task
   task_requested (Run task) gives =
-      let t = taken run_form (λ j. by_name (gives.0 j) (gives.1 j) (gives.2 j)) in
-      let explaining = explaining_is run_form run_sub t (Some task.explaining) refl refl gives.4 in
+      let t = taken run_form (λ j. by_name (gives.0 j) (gives.1 j) (gives.2 j) (gives.3 j)) in
+      let explaining = explaining_is run_form run_sub t (Some task.explaining) refl refl gives.5 in
       rw t.0 (
         refl,
         λ texts. grind (arith, t.1.1 texts, ap is_some explaining),
-        gives.5 ∙ first_value-rows f (codes "report") ∙ ap (option_and_then (λ (r : Row). slice_get r.values 0)) (t.1.2.filed refl)
-            ∙ file_of (report_of got.1),
-        flag_is run_form run_sub t (codes "trace") task.trace refl gives.3,
+        gives.6 ∙ file_is run_form run_sub t refl,
+        flag_is run_form run_sub t (codes "trace") task.trace refl gives.4,
         explaining,
-        paths_are run_form run_sub t ∙ sym (λ j. gives.6 j ∷ gives.7 j ∷ gives.8 j ∷ gives.9 j ∷ []),
+        paths_are run_form run_sub t ∙ sym (λ j. gives.7 j ∷ gives.8 j ∷ gives.9 j ∷ gives.10 j ∷ []),
       )
   task_requested (Check task) gives =
-      let t = taken check_form (λ j. by_name (gives.0 j) (bytes_eq name (codes "reach")) (bytes_eq name (codes "explain"))) in
+      let t = taken check_form (λ j. by_name (gives.0 j) (bytes_eq name (codes "reach")) (bytes_eq name (codes "diff"))
+      (bytes_eq name (codes "explain"))) in
       let explaining = explaining_is check_form check_sub t (Some task.explaining) refl refl gives.3 in
       rw t.0 (
         refl,
@@ -379,7 +414,7 @@ module _ (words : List Text) (name : Text) (f : Found) (got : HasRead words name
         paths_are check_form check_sub t ∙ sym (λ j. gives.4 j ∷ gives.5 j ∷ []),
       )
   task_requested (Reach task) gives =
-      let t = taken reach_form (λ j. by_name (gives.0 j) (gives.1 j) (bytes_eq name (codes "explain"))) in
+      let t = taken reach_form (λ j. by_name (gives.0 j) (gives.1 j) (bytes_eq name (codes "diff")) (bytes_eq name (codes "explain"))) in
       let explaining = explaining_is reach_form reach_sub t (Some task.explaining) refl refl gives.3 in
       rw t.0 (
         refl,
@@ -388,25 +423,38 @@ module _ (words : List Text) (name : Text) (f : Found) (got : HasRead words name
         explaining,
         paths_are reach_form reach_sub t ∙ sym (λ j. gives.4 j ∷ gives.5 j ∷ []),
       )
+  task_requested (Diff task) gives =
+      let t = taken diff_form (λ j. by_name (gives.0 j) (gives.1 j) (gives.2 j) (bytes_eq name (codes "explain"))) in
+      let explaining = explaining_is diff_form diff_sub t (Some task.explaining) refl refl gives.3 in
+      rw t.0 (
+        refl,
+        λ texts. grind (arith, t.1.1 texts, ap is_some explaining),
+        gives.4 ∙ file_is diff_form diff_sub t refl,
+        explaining,
+        paths_are diff_form diff_sub t ∙ sym (λ j. gives.5 j ∷ gives.6 j ∷ gives.7 j ∷ []),
+      )
   task_requested (Explain code) gives =
-      let t = taken explain_form (λ j. by_name (gives.0 j) (gives.1 j) (gives.2 j)) in
+      let t = taken explain_form (λ j. by_name (gives.0 j) (gives.1 j) (gives.2 j) (gives.3 j)) in
       rw t.0
-      (refl, t.1.1, paths_are explain_form explain_sub t ∙ sym (λ j. gives.3 j ∷ []))
+      (refl, t.1.1, paths_are explain_form explain_sub t ∙ sym (λ j. gives.4 j ∷ []))
 
   -- words that have both flags are none of a task
   pub contradicted : Contradicts name f → is_well_formed words ≡ false
-  contradicted both = go (bytes_eq name (codes "check")) refl (bytes_eq name (codes "reach")) refl
+  contradicted both = go (bytes_eq name (codes "check")) refl (bytes_eq name (codes "reach")) refl (bytes_eq name (codes "diff")) refl
     where
       go : (b : Bool) → bytes_eq name (codes "check") ≡ b → (a : Bool) → bytes_eq name (codes "reach") ≡ a
-          → is_well_formed words ≡ false
-      go true e a k =
-          let t = taken check_form (λ j. by_name (e j) (k j) (both.0 j)) in
+          → (d : Bool) → bytes_eq name (codes "diff") ≡ d → is_well_formed words ≡ false
+      go true e a k d l =
+          let t = taken check_form (λ j. by_name (e j) (k j) (l j) (both.0 j)) in
           rw t.0 (grind (arith, ap is_some (explaining_is check_form check_sub t None refl refl both.1)))
-      go false e true k =
-          let t = taken reach_form (λ j. by_name (e j) (k j) (both.0 j)) in
+      go false e true k d l =
+          let t = taken reach_form (λ j. by_name (e j) (k j) (l j) (both.0 j)) in
           rw t.0 (grind (arith, ap is_some (explaining_is reach_form reach_sub t None refl refl both.1)))
-      go false e false k =
-          let t = taken run_form (λ j. by_name (e j) (k j) (both.0 j)) in
+      go false e false k true l =
+          let t = taken diff_form (λ j. by_name (e j) (k j) (l j) (both.0 j)) in
+          rw t.0 (grind (arith, ap is_some (explaining_is diff_form diff_sub t None refl refl both.1)))
+      go false e false k false l =
+          let t = taken run_form (λ j. by_name (e j) (k j) (l j) (both.0 j)) in
           rw t.0 (grind (arith, ap is_some (explaining_is run_form run_sub t None refl refl both.1)))
 
 -- ---- errors

@@ -11,12 +11,12 @@ use Rattle.std.proofs.lemmas.List.Folds.{list_any_at}
 use Rattle.clap.specs.Lexer.{has_byte, long_of, long_of_rest, short_of, strip_byte}
 use Rattle.clap.specs.Walk.{Text}
 use Rattle.clap.proofs.CutLemmas.{before_first-Lacks}
-use Rattle.command_line.specs.CommandLine.{as_report, is_plain_word, report_option, AreTexts, are_operands, are_plain, has_flag, names_file}
-use Rattle.command_line.specs.CommandLine.{operands, report_of, without_flag, without_report}
+use Rattle.command_line.specs.CommandLine.{as_option, is_plain_word, option_named, AreTexts, are_operands, are_plain, file_given, has_flag, names_file}
+use Rattle.command_line.specs.CommandLine.{operands, without_file, without_flag}
 
 -- ---- the pass
 
--- where a word stands: before any `--`, after one, or behind `--report`
+-- where a word stands: before any `--`, after one, or behind the option that names a file
 pub data Place : Type 0 where
   before : Place
   after : Place
@@ -45,7 +45,7 @@ abbrev pub closed : Text → List Text → List Text
 closed word [] = []
 closed word (flag ∷ free) = cond (bytes_eq word (45 ∷ 45 ∷ flag)) free (flag ∷ closed word free)
 
--- the paths by their ids, the last first; the flags that weren't met; and the report's file
+-- the paths by their ids, the last first; the flags that weren't met; and the option's file
 abbrev pub Pairs : Type 0
 Pairs = List (Text × Text)
 
@@ -53,7 +53,7 @@ abbrev pub Seen : Type 0
 Seen = Pairs × List Text × Option Text
 
 -- what the words after one give, by the place, the paths so far, the ids of those that are left, the flags
--- that may come, and the report's file
+-- that may come, and the option's file
 abbrev pub Later : Type 0
 Later = Place → Pairs → List Text → List Text → Option Text → Option Seen
 
@@ -61,11 +61,11 @@ abbrev pub operand_met : Text → Place → Pairs → List Text → List Text �
 operand_met word place done [] free file later = None
 operand_met word place done (id ∷ left) free file later = later place ((id, word) ∷ done) left free file
 
--- a word before any `--`, by whether it is `--`, a flag that may come, the report's option with any FILE in the
+-- a word before any `--`, by whether it is `--`, a flag that may come, the option with any FILE in the
 -- same word, an operand
 abbrev pub word_met : Bool → Bool → Option (Option Text) → Bool → Text → Pairs → List Text → List Text → Option Text → Later → Option Seen
-word_met true flagged report plain word done left free file later = later after done left free file
-word_met false true report plain word done left free file later = later before done left (closed word free) file
+word_met true flagged option plain word done left free file later = later after done left free file
+word_met false true option plain word done left free file later = later before done left (closed word free) file
 word_met false false (Some v) plain word done left free file later =
     cond (is_some file) None (later (cond (is_some v) before naming) done left free v)
 word_met false false None true word done left free file later = operand_met word before done left free file later
@@ -88,13 +88,13 @@ abbrev pub at_end : Pairs → List Text → List Text → Option Text → Option
 at_end done [] free file = Some (done, free, file)
 at_end done (id ∷ left) free file = None
 
--- the words, of which those that pass the test are operands
-module _ (is_operand : Text → Bool) where
+-- the words, where the option of this name has a file, and those that pass the test are operands
+module _ (opt : Text) (is_operand : Text → Bool) where
   abbrev pub scan : List Text → Place → Pairs → List Text → List Text → Option Text → Option Seen
   scan [] naming done left free file = None
   scan [] place done left free file = at_end done left free file
   scan (word ∷ rest) before done left free file = word_met (bytes_eq word (codes "--")) (is_open free word)
-      (as_report word) (is_operand word) word done left free file (scan rest)
+      (as_option opt word) (is_operand word) word done left free file (scan rest)
   scan (word ∷ rest) after done left free file = operand_met word after done left free file (scan rest)
   scan (word ∷ rest) naming done left free file = cond (is_operand word) (scan rest before done left free (Some word)) None
 
@@ -154,21 +154,21 @@ taken_plain [] utf8 = refl
 taken_plain (c ∷ []) utf8 = plain_taken (c ∷ []) refl
 taken_plain (c ∷ x ∷ rest) utf8 = grind (arith, no_double rest, character_behind x rest, eqb-true)
 
--- ---- an option is no operand, and the flag is not the report's
+-- ---- an option is no operand, and a flag has no file
 
 abbrev pub Apart : Bool → Option (Option Text) → Bool → Type 0
-Apart flagged report plain = (not ((is_some report || plain) && flagged) && not (is_some report && plain)) ≡ true
+Apart flagged option plain = (not ((is_some option || plain) && flagged) && not (is_some option && plain)) ≡ true
 
 apart_names : (f r : Bool) (v : Option Text) → (f ≡ true → r ≡ false) → Apart (f && not (is_some v)) (cond r (Some v) None) false
 apart_names f r v apart = grind (arith, apart)
 
 -- ---- the flags that may come
 
--- each is a long option of its own, and none is the report's
-abbrev pub AreFlags : List Text → Type 0
-AreFlags [] = Unit {0}
-AreFlags (flag ∷ free) = (long_of (45 ∷ 45 ∷ flag) ≡ Some (flag, None)) × (bytes_eq (codes "report") flag ≡ false)
-    × (is_open free (45 ∷ 45 ∷ flag) ≡ false) × AreFlags free
+-- each is a long option of its own, and none is the option that names a file
+abbrev pub AreFlags : Text → List Text → Type 0
+AreFlags opt [] = Unit {0}
+AreFlags opt (flag ∷ free) = (long_of (45 ∷ 45 ∷ flag) ≡ Some (flag, None)) × (bytes_eq opt flag ≡ false)
+    × (is_open free (45 ∷ 45 ∷ flag) ≡ false) × AreFlags opt free
 
 -- the flag is one of these
 abbrev pub is_in : List Text → Text → Bool
@@ -186,37 +186,37 @@ flag_or : (flag : Text) (free : List Text) (o : Option (Text × Option Text))
 flag_or flag free None = refl
 flag_or flag free (Some q) = grind arith
 
-pub flag_word : (free : List Text) → AreFlags free → (word : Text) → is_open free word ≡ is_flag_in free (long_of word)
-flag_word [] are word = none (long_of word)
+pub flag_word : (opt : Text) (free : List Text) → AreFlags opt free → (word : Text) → is_open free word ≡ is_flag_in free (long_of word)
+flag_word opt [] are word = none (long_of word)
   where
     none : (o : Option (Text × Option Text)) → false ≡ is_flag_in [] o
     none None = refl
     none (Some q) = refl
-flag_word (flag ∷ free) are word =
-    (λ j. flag_is flag are.0 word j || flag_word free are.3 word j) ∙ flag_or flag free (long_of word)
+flag_word opt (flag ∷ free) are word =
+    (λ j. flag_is flag are.0 word j || flag_word opt free are.3 word j) ∙ flag_or flag free (long_of word)
 
--- a flag is no file
-pub no_report : (free : List Text) → AreFlags free → is_in free (codes "report") ≡ false
-no_report [] are = refl
-no_report (flag ∷ free) are = grind (arith, are, no_report free are.3)
+-- the option that names a file is no flag
+pub not_flag : (opt : Text) (free : List Text) → AreFlags opt free → is_in free opt ≡ false
+not_flag opt [] are = refl
+not_flag opt (flag ∷ free) are = grind (arith, are, not_flag opt free are.3)
 
 -- what is closed stays so
 pub fewer : (word name : Text) (free : List Text) → is_in free name ≡ false → is_in (closed word free) name ≡ false
 fewer word name [] e = refl
 fewer word name (flag ∷ free) e = grind (arith, fewer word name free, e)
 
-pub are_closed : (word : Text) (free : List Text) → AreFlags free → AreFlags (closed word free)
-are_closed word [] are = tt
-are_closed word (flag ∷ free) are = go (bytes_eq word (45 ∷ 45 ∷ flag)) (are_closed word free are.3)
+pub are_closed : (opt word : Text) (free : List Text) → AreFlags opt free → AreFlags opt (closed word free)
+are_closed opt word [] are = tt
+are_closed opt word (flag ∷ free) are = go (bytes_eq word (45 ∷ 45 ∷ flag)) (are_closed opt word free are.3)
   where
-    go : (b : Bool) → AreFlags (closed word free) → AreFlags (cond b free (flag ∷ closed word free))
+    go : (b : Bool) → AreFlags opt (closed word free) → AreFlags opt (cond b free (flag ∷ closed word free))
     go true later = are.3
     go false later = (are.0, are.1, fewer word flag free are.2, later)
 
 -- the flag that is met is closed, and no other
-pub closes : (name : Text) (free : List Text) → AreFlags free → is_in (closed (45 ∷ 45 ∷ name) free) name ≡ false
-closes name [] are = refl
-closes name (flag ∷ free) are = go (bytes_eq name flag) refl (closes name free are.3)
+pub closes : (opt name : Text) (free : List Text) → AreFlags opt free → is_in (closed (45 ∷ 45 ∷ name) free) name ≡ false
+closes opt name [] are = refl
+closes opt name (flag ∷ free) are = go (bytes_eq name flag) refl (closes opt name free are.3)
   where
     go : (b : Bool) → bytes_eq name flag ≡ b → is_in (closed (45 ∷ 45 ∷ name) free) name ≡ false
         → is_in (cond b free (flag ∷ closed (45 ∷ 45 ∷ name) free)) name ≡ false
@@ -233,17 +233,17 @@ keeps_open name other (flag ∷ free) e = go (bytes_eq name flag) refl (keeps_op
     go true f later = grind (arith, bytes_eq-Decides name flag, bytes_eq-Decides other flag, bytes_eq-Decides name other, e, f)
     go false f later = grind (arith, later)
 
-pub word_apart : (free : List Text) → AreFlags free → (is_operand : Text → Bool)
+pub word_apart : (opt : Text) (free : List Text) → AreFlags opt free → (is_operand : Text → Bool)
     → ((word : Text) → is_operand word ≡ true → long_of word ≡ None)
-    → (word : Text) → Apart (is_open free word) (as_report word) (is_operand word)
-word_apart free are is_operand bare word =
-    rw (flag_word free are word) (go (long_of word) (is_operand word) (bare word))
+    → (word : Text) → Apart (is_open free word) (as_option opt word) (is_operand word)
+word_apart opt free are is_operand bare word =
+    rw (flag_word opt free are word) (go (long_of word) (is_operand word) (bare word))
   where
-    go : (o : Option (Text × Option Text)) (plain : Bool) → (plain ≡ true → o ≡ None) → Apart (is_flag_in free o) (report_option o) plain
+    go : (o : Option (Text × Option Text)) (plain : Bool) → (plain ≡ true → o ≡ None) → Apart (is_flag_in free o) (option_named opt o) plain
     go None plain none = grind arith
     go (Some q) true none = grind (arith, none)
-    go (Some q) false none = apart_names _ (bytes_eq (codes "report") q.0) q.1
-        (λ e. grind (arith, e, no_report free are, bytes_eq-Decides (codes "report") q.0))
+    go (Some q) false none = apart_names _ (bytes_eq opt q.0) q.1
+        (λ e. grind (arith, e, not_flag opt free are, bytes_eq-Decides opt q.0))
 
 -- the paths with these operands
 abbrev pub pairs : Pairs → List Text → List Text → Pairs
@@ -260,14 +260,14 @@ module _ (is_operand : Text → Bool) where
   name_by (Some None) rest later = option_map_or is_operand (slice_get rest 0) false
   name_by (Some (Some file)) rest later = true
 
-  abbrev pub names_by : List Text → Bool
-  names_by [] = true
-  names_by (word ∷ rest) = cond (bytes_eq word (codes "--")) true (name_by (as_report word) rest (names_by rest))
+  abbrev pub names_by : Text → List Text → Bool
+  names_by opt [] = true
+  names_by opt (word ∷ rest) = cond (bytes_eq word (codes "--")) true (name_by (as_option opt word) rest (names_by opt rest))
 
 -- the words without what was met before
-abbrev pub without_option : Option Text → List Text → List Text
-without_option None words = without_report words
-without_option (Some f) words = words
+abbrev pub without_option : Text → Option Text → List Text → List Text
+without_option opt None words = without_file opt words
+without_option opt (Some f) words = words
 
 -- the words without these flags, and the flags that they don't have
 abbrev pub flagless : List Text → List Text → List Text
@@ -279,18 +279,19 @@ open_in [] words = []
 open_in (flag ∷ free) words = let later = open_in free (without_flag (45 ∷ 45 ∷ flag) words) in
     cond (has_flag (45 ∷ 45 ∷ flag) words) later (flag ∷ later)
 
-abbrev pub words_of : List Text → Option Text → List Text → List Text
-words_of free file words = flagless free (without_option file words)
+abbrev pub words_of : Text → List Text → Option Text → List Text → List Text
+words_of opt free file words = flagless free (without_option opt file words)
 
-abbrev pub unmet : List Text → Option Text → List Text → List Text
-unmet free file words = open_in free (without_option file words)
+abbrev pub unmet : Text → List Text → Option Text → List Text → List Text
+unmet opt free file words = open_in free (without_option opt file words)
 
-abbrev pub file_of : Option Text → List Text → Option Text
-file_of None words = report_of words
-file_of (Some f) words = Some f
+abbrev pub file_of : Text → Option Text → List Text → Option Text
+file_of opt None words = file_given opt words
+file_of opt (Some f) words = Some f
 
-abbrev pub seen_of : Pairs → List Text → List Text → Option Text → List Text → Seen
-seen_of done left free file words = (pairs done left (operands (words_of free file words)), unmet free file words, file_of file words)
+abbrev pub seen_of : Text → Pairs → List Text → List Text → Option Text → List Text → Seen
+seen_of opt done left free file words =
+    (pairs done left (operands (words_of opt free file words)), unmet opt free file words, file_of opt file words)
 
 -- ---- the flags of the words, by the first of them
 
@@ -347,11 +348,11 @@ never_open name [] words e = refl
 never_open name (flag ∷ free) words e =
     grind (arith, e, never_open name free (without_flag (45 ∷ 45 ∷ flag) words))
 
-pub met_in : (free : List Text) → AreFlags free → (name : Text) (words : List Text) → is_in free name ≡ true
+pub met_in : (opt : Text) (free : List Text) → AreFlags opt free → (name : Text) (words : List Text) → is_in free name ≡ true
     → not (is_in (open_in free words) name) ≡ has_flag (45 ∷ 45 ∷ name) words
-met_in [] are name words e = absurd (true≢false (sym e))
-met_in (flag ∷ free) are name words e = go (bytes_eq name flag) refl (has_flag (45 ∷ 45 ∷ flag) words) refl
-    (λ o. met_in free are.3 name (without_flag (45 ∷ 45 ∷ flag) words) o)
+met_in opt [] are name words e = absurd (true≢false (sym e))
+met_in opt (flag ∷ free) are name words e = go (bytes_eq name flag) refl (has_flag (45 ∷ 45 ∷ flag) words) refl
+    (λ o. met_in opt free are.3 name (without_flag (45 ∷ 45 ∷ flag) words) o)
   where
     later : List Text
     later = open_in free (without_flag (45 ∷ 45 ∷ flag) words)
@@ -362,16 +363,16 @@ met_in (flag ∷ free) are name words e = go (bytes_eq name flag) refl (has_flag
     go true f h g rest = grind (arith, f, g, are.2, never_open name free (without_flag (45 ∷ 45 ∷ flag) words), bytes_eq-Decides name flag)
     go false f h g rest = grind (arith, f, g, e, rest, has_other name flag f words)
 
-abbrev pub names_of : (Text → Bool) → Option Text → List Text → Bool
-names_of is_operand None words = names_by is_operand words
-names_of is_operand (Some f) words = true
+abbrev pub names_of : Text → (Text → Bool) → Option Text → List Text → Bool
+names_of opt is_operand None words = names_by is_operand opt words
+names_of opt is_operand (Some f) words = true
 
-module _ (is_operand : Text → Bool) where
-  -- the flags may be among the words, and so may the report's option unless it was met already
+module _ (opt : Text) (is_operand : Text → Bool) where
+  -- the flags may be among the words, and so may the option that names a file unless it was met already
   abbrev pub with_file : Pairs → List Text → List Text → Option Text → List Text → Option Seen
-  with_file done left free file words = let ws = words_of free file words in
-      cond (names_of is_operand file words && (plain_by is_operand ws && length (operands ws) == length left))
-      (Some (seen_of done left free file words)) None
+  with_file done left free file words = let ws = words_of opt free file words in
+      cond (names_of opt is_operand file words && (plain_by is_operand ws && length (operands ws) == length left))
+      (Some (seen_of opt done left free file words)) None
 
   abbrev pub meaning : List Text → Place → Pairs → List Text → List Text → Option Text → Option Seen
   meaning words after done left free file = cond (length words == length left) (Some (pairs done left words, free, file)) None
@@ -380,52 +381,53 @@ module _ (is_operand : Text → Bool) where
   meaning (word ∷ rest) naming done left free file = cond (is_operand word) (with_file done left free (Some word) rest) None
 
   by_word : (word : Text) (rest : List Text) (done : Pairs) (left free : List Text) (file : Option Text) (d f : Bool) (r : Option (Option Text)) (a : Bool)
-      → bytes_eq word (codes "--") ≡ d → is_open free word ≡ f → as_report word ≡ r → is_operand word ≡ a → Apart f r a
+      → bytes_eq word (codes "--") ≡ d → is_open free word ≡ f → as_option opt word ≡ r → is_operand word ≡ a → Apart f r a
       → word_met d f r a word done left free file (meaning rest) ≡ with_file done left free file (word ∷ rest)
   by_word word rest done left free file true f r a ed ef er ea apart = grind (arith, past_dashes free word rest ed)
   by_word word rest done left free file false true r a ed ef er ea apart =
-      grind (arith, past_flag free word rest ed ef, past_flag free word (without_report rest) ed ef)
+      grind (arith, past_flag free word rest ed ef, past_flag free word (without_file opt rest) ed ef)
   by_word word rest done left free file false false r a ed ef er ea apart =
-      grind (arith, past_other free word rest ed ef, past_other free word (without_report rest) ed ef)
+      grind (arith, past_other free word rest ed ef, past_other free word (without_file opt rest) ed ef)
 
   pub scan_means : ((word : Text) → is_operand word ≡ true → long_of word ≡ None) → (words : List Text) (place : Place) (done : Pairs)
-      (left free : List Text) (file : Option Text) → AreFlags free
-      → scan is_operand words place done left free file ≡ meaning words place done left free file
+      (left free : List Text) (file : Option Text) → AreFlags opt free
+      → scan opt is_operand words place done left free file ≡ meaning words place done left free file
   scan_means bare [] place done left free file are = grind (arith, past_none free)
   scan_means bare (word ∷ rest) before done left free file are =
-      met_same (bytes_eq word (codes "--")) (is_open free word) (as_report word) (is_operand word) word done left free file
-      (scan is_operand rest) (meaning rest) (λ p d l f. scan_means bare rest p d l free f are)
-      (λ p d l f. scan_means bare rest p d l (closed word free) f (are_closed word free are))
-      ∙ by_word word rest done left free file _ _ _ _ refl refl refl refl (word_apart free are is_operand bare word)
+      met_same (bytes_eq word (codes "--")) (is_open free word) (as_option opt word) (is_operand word) word done left free file
+      (scan opt is_operand rest) (meaning rest) (λ p d l f. scan_means bare rest p d l free f are)
+      (λ p d l f. scan_means bare rest p d l (closed word free) f (are_closed opt word free are))
+      ∙ by_word word rest done left free file _ _ _ _ refl refl refl refl (word_apart opt free are is_operand bare word)
   scan_means bare (word ∷ rest) place done left free file are = grind (arith, scan_means bare rest, are)
 
--- the report's option names a file
-abbrev pub is_named : Option Text → List Text → Bool
-is_named None words = names_file words
-is_named (Some f) words = true
+-- the option of this name has a file
+abbrev pub is_named : Text → Option Text → List Text → Bool
+is_named opt None words = names_file opt words
+is_named opt (Some f) words = true
 
-abbrev pub is_formed : List Text → List Text → Option Text → List Text → Bool
-is_formed left free file words = is_named file words && are_operands (length left) (words_of free file words)
+abbrev pub is_formed : Text → List Text → List Text → Option Text → List Text → Bool
+is_formed opt left free file words = is_named opt file words && are_operands (length left) (words_of opt free file words)
 
 -- ---- the two tests of operands
 
 -- texts pass both or none
-scan_same : (words : List Text) → AreTexts words → (place : Place) (done : Pairs) (left free : List Text) (file : Option Text)
-    → scan is_taken words place done left free file ≡ scan is_plain_word words place done left free file
-scan_same [] texts place done left free file = grind arith
-scan_same (word ∷ rest) texts before done left free file =
-    λ j. word_met (bytes_eq word (codes "--")) (is_open free word) (as_report word) (taken_plain word texts.0 j) word
-    done left free file (λ p d l o f. scan_same rest texts.1 p d l o f j)
-scan_same (word ∷ rest) texts place done left free file = grind (arith, taken_plain word texts.0, scan_same rest texts.1)
+scan_same : (opt : Text) (words : List Text) → AreTexts words → (place : Place) (done : Pairs) (left free : List Text) (file : Option Text)
+    → scan opt is_taken words place done left free file ≡ scan opt is_plain_word words place done left free file
+scan_same opt [] texts place done left free file = grind arith
+scan_same opt (word ∷ rest) texts before done left free file =
+    λ j. word_met (bytes_eq word (codes "--")) (is_open free word) (as_option opt word) (taken_plain word texts.0 j) word
+    done left free file (λ p d l o f. scan_same opt rest texts.1 p d l o f j)
+scan_same opt (word ∷ rest) texts place done left free file = grind (arith, taken_plain word texts.0, scan_same opt rest texts.1)
 
 plain_all_taken : (words : List Text) → are_plain words ≡ true → plain_by is_taken words ≡ true
 plain_all_taken [] e = refl
 plain_all_taken (word ∷ rest) e = grind (arith, plain_taken word, plain_all_taken rest)
 
-named_taken : (file : Option Text) (words : List Text) → is_named file words ≡ true → names_of is_taken file words ≡ true
-named_taken (Some f) words e = refl
-named_taken None [] e = refl
-named_taken None (word ∷ rest) e = grind (arith, plain_taken, named_taken None rest)
+named_taken : (opt : Text) (file : Option Text) (words : List Text) → is_named opt file words ≡ true
+    → names_of opt is_taken file words ≡ true
+named_taken opt (Some f) words e = refl
+named_taken opt None [] e = refl
+named_taken opt None (word ∷ rest) e = grind (arith, plain_taken, named_taken opt None rest)
 
 -- ---- the definitions of the command line
 
@@ -433,30 +435,30 @@ plain_all : (words : List Text) → plain_by is_plain_word words ≡ are_plain w
 plain_all [] = refl
 plain_all (word ∷ rest) = grind (arith, plain_all rest)
 
-named_all : (file : Option Text) (words : List Text) → names_of is_plain_word file words ≡ is_named file words
-named_all (Some f) words = refl
-named_all None [] = refl
-named_all None (word ∷ rest) = grind (arith, named_all None rest)
+named_all : (opt : Text) (file : Option Text) (words : List Text) → names_of opt is_plain_word file words ≡ is_named opt file words
+named_all opt (Some f) words = refl
+named_all opt None [] = refl
+named_all opt None (word ∷ rest) = grind (arith, named_all opt None rest)
 
-module _ (free : List Text) (are : AreFlags free) (rest left : List Text) (file : Option Text) where
+module _ (opt : Text) (free : List Text) (are : AreFlags opt free) (rest left : List Text) (file : Option Text) where
   abbrev said : Seen
-  said = seen_of [] left free file rest
+  said = seen_of opt [] left free file rest
 
   -- what the pass finds is what the words say, and if they are texts they are well-formed
-  pub found_said : (seen : Seen) → scan is_taken rest before [] left free file ≡ Some seen
-      → ((length (operands (words_of free file rest)) == length left) ≡ true)
-      × (AreTexts rest → is_formed left free file rest ≡ true) × (said ≡ seen)
+  pub found_said : (seen : Seen) → scan opt is_taken rest before [] left free file ≡ Some seen
+      → ((length (operands (words_of opt free file rest)) == length left) ≡ true)
+      × (AreTexts rest → is_formed opt left free file rest ≡ true) × (said ≡ seen)
   found_said seen found =
       let means : (p : Text → Bool) → ((word : Text) → p word ≡ true → long_of word ≡ None)
-      → scan p rest before [] left free file ≡ meaning p rest before [] left free file =
-      λ p bare. scan_means p bare rest before [] left free file are in
-      let words = words_of free file rest in
-      grind (arith, found, means is_taken taken_bare, means is_plain_word plain_bare, scan_same rest, named_all file rest, plain_all words)
+      → scan opt p rest before [] left free file ≡ meaning opt p rest before [] left free file =
+      λ p bare. scan_means opt p bare rest before [] left free file are in
+      let words = words_of opt free file rest in
+      grind (arith, found, means is_taken taken_bare, means is_plain_word plain_bare, scan_same opt rest, named_all opt file rest, plain_all words)
 
   -- the pass finds something in well-formed words
-  pub formed_found : is_formed left free file rest ≡ true
-      → scan is_taken rest before [] left free file ≡ Some said
+  pub formed_found : is_formed opt left free file rest ≡ true
+      → scan opt is_taken rest before [] left free file ≡ Some said
   formed_found e =
-      let words = words_of free file rest in
-      let means = scan_means is_taken taken_bare rest before [] left free file are in
-      grind (arith, means, e, named_taken file rest, plain_all_taken words)
+      let words = words_of opt free file rest in
+      let means = scan_means opt is_taken taken_bare rest before [] left free file are in
+      grind (arith, means, e, named_taken opt file rest, plain_all_taken words)

@@ -5,7 +5,10 @@ ghost use Rattle.command_line.specs.CommandLine.{RequestsTask, is_well_formed};
 ghost use Rattle.command_line.specs.steps.Given.{Contradicts, GivesExplaining, GivesTask, value_at};
 
 use crate::program::{excluding_program, program};
-use crate::tasks::{CheckPaths, CheckTask, Explaining, ReachTask, ReplayPaths, ReplayTask, Task};
+use crate::tasks::{
+    CheckPaths, CheckTask, DiffPaths, DiffTask, Explaining, ReachTask, ReplayPaths, ReplayTask,
+    Task,
+};
 use clap::error::ErrorKind;
 use clap::{ArgMatches, Error};
 use std::alloc::{AllocError, Global};
@@ -13,14 +16,15 @@ use std::alloc::{AllocError, Global};
 /// Parses the words of the command line, of which the first is the program's name.
 ///
 /// The others are `run` and four paths, in the order RULES, BOX, IN, OUT; or `check` or `reach` and
-/// two, in the order RULES, BOX; or `explain` and a code. A path or code that begins with a hyphen
-/// goes after a word `--`, which is no path itself; `-` alone is a path.
+/// two, in the order RULES, BOX; or `diff` and three, in the order OLD, NEW, BOX; or `explain` and a
+/// code. A path or code that begins with a hyphen goes after a word `--`, which is no path itself; `-`
+/// alone is a path.
 ///
 /// A run may have `--trace` once, and `--report FILE` or `--report=FILE` once; a check may have
-/// `--all` and `--nft`, once each, and `reach` may have `--sets` once; all three may have `--explain`
-/// or `--no-explain`, which exclude each other. Options may be anywhere between the subcommand and
-/// the first `--`, behind which each word is a path. A FILE that begins with a hyphen is given as
-/// `--report=FILE`.
+/// `--all` and `--nft`, once each, `reach` may have `--sets` once, and `diff` `--assume FILTER` or
+/// `--assume=FILTER` once; all four may have `--explain` or `--no-explain`, which exclude each other.
+/// Options may be anywhere between the subcommand and the first `--`, behind which each word is a
+/// path. A FILE that begins with a hyphen is given as `--report=FILE`, and so is a FILTER.
 ///
 /// # Errors
 /// clap's, whose `exit_code` is 0 where help was requested, and 2 where the words are no task.
@@ -71,6 +75,13 @@ fn task_of<'a>(name: &str, given: &ArgMatches<'a>) -> Option<Task<'a>>
             texts: texts_of(given),
         }));
     }
+    if name == "diff" {
+        return Some(Task::Diff(DiffTask {
+            explaining: explaining_of(given)?,
+            assumed: given.get_str("assume"),
+            paths: diff_paths_of(given),
+        }));
+    }
     if name == "explain" {
         return Some(Task::Explain(value_of(given, "code")));
     }
@@ -78,13 +89,36 @@ fn task_of<'a>(name: &str, given: &ArgMatches<'a>) -> Option<Task<'a>>
         trace: given.get_flag("trace"),
         explaining: explaining_of(given)?,
         report: given.get_str("report"),
-        paths: ReplayPaths {
-            rules: value_of(given, "rules"),
-            plant: value_of(given, "plant"),
-            input: value_of(given, "input"),
-            output: value_of(given, "output"),
-        },
+        paths: replay_paths_of(given),
     }))
+}
+
+// The paths of a run.
+fn replay_paths_of<'a>(given: &ArgMatches<'a>) -> ReplayPaths<'a>
+    ensures rules { result.rules.now ≡ value_at (found_of given.now) (codes "rules") }
+    ensures plant { result.plant.now ≡ value_at (found_of given.now) (codes "plant") }
+    ensures input { result.input.now ≡ value_at (found_of given.now) (codes "input") }
+    ensures output { result.output.now ≡ value_at (found_of given.now) (codes "output") }
+{
+    ReplayPaths {
+        rules: value_of(given, "rules"),
+        plant: value_of(given, "plant"),
+        input: value_of(given, "input"),
+        output: value_of(given, "output"),
+    }
+}
+
+// The paths of two rulesets and a box.
+fn diff_paths_of<'a>(given: &ArgMatches<'a>) -> DiffPaths<'a>
+    ensures old { result.old.now ≡ value_at (found_of given.now) (codes "old") }
+    ensures new { result.new.now ≡ value_at (found_of given.now) (codes "new") }
+    ensures plant { result.plant.now ≡ value_at (found_of given.now) (codes "plant") }
+{
+    DiffPaths {
+        old: value_of(given, "old"),
+        new: value_of(given, "new"),
+        plant: value_of(given, "plant"),
+    }
 }
 
 // The paths of a ruleset and a box.

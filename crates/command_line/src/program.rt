@@ -3,7 +3,7 @@ ghost use Rattle.std.specs.Prelude.{◌≡◌, IfOk, Some, false, fold};
 ghost use Rattle.clap.specs.Words.{app_of, new_app, rule_of};
 ghost use Rattle.clap.specs.declared.builder.command.Command.TheViews.{out-Command};
 ghost use Rattle.command_line.specs.Statuses.{Lists, statuses_of};
-ghost use Rattle.command_line.specs.steps.Program.{app_for, flag_rule, path_rule, program_app, report_rule, rule_for, top_app, with_described};
+ghost use Rattle.command_line.specs.steps.Program.{app_for, flag_rule, path_rule, program_app, file_rule, rule_for, top_app, with_described};
 
 use clap::{Arg, ArgAction, Command};
 use std::alloc::{AllocError, Global};
@@ -20,6 +20,11 @@ const NFT_HELP: &str =
 
 const SETS_HELP: &str = "Tells of each rule which packets reach and meet it, as matches of nft(8)";
 
+const REPORT_HELP: &str = "Writes the report to FILE instead of standard output";
+
+const ASSUME_HELP: &str =
+    "Compares only packets that the one filter chain of the ruleset FILTER accepts";
+
 const EXPLAIN_HELP: &str =
     "Tells what a fault means, and where it is; on a terminal that is done without it";
 
@@ -27,12 +32,12 @@ const NO_EXPLAIN_HELP: &str = "Tells no more than the line of a fault, not on a 
 
 /// The end of `--help`.
 const NOTES: &str = "\
-With --explain, run, check and reach tell what a fault means, and where it is.
-Where standard error is a terminal they do so without it; --no-explain turns it
-off.
+With --explain, run, check, reach and diff tell what a fault means, and where it
+is. Where standard error is a terminal they do so without it; --no-explain turns
+it off.
 
 Exit statuses:
-  0  done; for check: accepted; for reach: each rule can be met
+  0  done; for check: accepted; for reach: each rule can be met; for diff: the same for every packet
   1  the ruleset is rejected
   2  the command line isn't understood, or a file to write is one to read
   3  the box file is rejected
@@ -41,7 +46,8 @@ Exit statuses:
   6  out of memory
   7  the capture ends in the middle of a record
   8  a rule can't be met
-  9  for reach: the answer is too large to compute
+  9  for reach and diff: the answer is too large to compute
+  10  for diff: the rulesets differ
 
 Examples:
   nftrun check --explain rules.nft box.txt
@@ -106,6 +112,25 @@ Examples:
   nftrun reach rules.nft box.txt | grep never
   nftrun reach --sets rules.nft box.txt";
 
+/// The end of `diff --help`.
+const DIFF_NOTES: &str = "\
+It compares what two rulesets do with every packet, stage by stage of the hooks,
+before any of them is loaded. A path that begins with a hyphen goes after --.
+
+Exit statuses:
+  0  the rulesets do the same with every packet
+  1  a ruleset is rejected
+  2  the command line isn't understood
+  3  the box file is rejected
+  5  a file can't be opened, or a read or write failed
+  6  out of memory
+  9  the answer is too large to compute
+  10  the rulesets differ
+
+Examples:
+  nftrun diff old.nft new.nft box.txt
+  nftrun diff --assume filter.nft old.nft new.nft box.txt";
+
 /// A help that lists exit statuses.
 #[derive(Clone, Copy)]
 pub(crate) enum Help {
@@ -117,6 +142,8 @@ pub(crate) enum Help {
     Check,
     /// `nftrun reach --help`
     Reach,
+    /// `nftrun diff --help`
+    Diff,
 }
 
 impl Help {
@@ -129,6 +156,7 @@ impl Help {
             Help::Run => RUN_NOTES,
             Help::Check => CHECK_NOTES,
             Help::Reach => REACH_NOTES,
+            Help::Diff => DIFF_NOTES,
         }
     }
 }
@@ -147,11 +175,11 @@ pub(crate) enum Argument {
     Path(&'static str, &'static str, &'static str),
     /// A flag: its name and its help.
     Flag(&'static str, &'static str),
-    /// `--report FILE`.
-    Report,
+    /// An option that has a file: its name, the file's name in the usage, and its help.
+    File(&'static str, &'static str, &'static str),
 }
 
-static SUBCOMMANDS: [Subcommand; 4] = [
+static SUBCOMMANDS: [Subcommand; 5] = [
     Subcommand {
         name: "run",
         about: "Replays a capture through a ruleset",
@@ -164,7 +192,7 @@ static SUBCOMMANDS: [Subcommand; 4] = [
             Argument::Flag("trace", TRACE_HELP),
             Argument::Flag("explain", EXPLAIN_HELP),
             Argument::Flag("no-explain", NO_EXPLAIN_HELP),
-            Argument::Report,
+            Argument::File("report", "FILE", REPORT_HELP),
         ],
     },
     Subcommand {
@@ -190,6 +218,19 @@ static SUBCOMMANDS: [Subcommand; 4] = [
             Argument::Flag("sets", SETS_HELP),
             Argument::Flag("explain", EXPLAIN_HELP),
             Argument::Flag("no-explain", NO_EXPLAIN_HELP),
+        ],
+    },
+    Subcommand {
+        name: "diff",
+        about: "Tells which packets a new ruleset treats differently",
+        help: Some(Help::Diff),
+        arguments: &[
+            Argument::Path("old", "OLD", "The file of the ruleset so far"),
+            Argument::Path("new", "NEW", "The file of the ruleset to replace it"),
+            Argument::Path("plant", "BOX", "The file of the box"),
+            Argument::Flag("explain", EXPLAIN_HELP),
+            Argument::Flag("no-explain", NO_EXPLAIN_HELP),
+            Argument::File("assume", "FILTER", ASSUME_HELP),
         ],
     },
     Subcommand {
@@ -284,7 +325,7 @@ impl Argument {
         match self {
             Argument::Path(name, value_name, help) => path(alloc, name, value_name, help),
             Argument::Flag(name, help) => flag(alloc, name, help),
-            Argument::Report => report(alloc),
+            Argument::File(name, value_name, help) => file(alloc, name, value_name, help),
         }
     }
 }
@@ -310,14 +351,15 @@ fn flag<'a>(alloc: Global, name: &'a str, help: &'a str) -> Arg<'a>
         .action(ArgAction::SetTrue)
 }
 
-fn report<'a>(alloc: Global) -> Arg<'a>
-    ensures rule { rule_of result ≡ report_rule }
+// An option of this name, which has a file.
+fn file<'a>(alloc: Global, name: &'a str, value_name: &'a str, help: &'a str) -> Arg<'a>
+    ensures rule { rule_of result ≡ file_rule name.entry.now }
     ensures local { result.global ≡ false }
 {
-    Arg::new(alloc, "report")
-        .long("report")
-        .value_name("FILE")
-        .help("Writes the report to FILE instead of standard output")
+    Arg::new(alloc, name)
+        .long(name)
+        .value_name(value_name)
+        .help(help)
 }
 
 // A required positional argument of one value.

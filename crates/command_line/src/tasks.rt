@@ -13,6 +13,9 @@ pub enum Task<'a> {
     Check(CheckTask<'a>),
     /// `reach [--explain | --no-explain] [--sets] RULES BOX`: tell which rules some packet can meet.
     Reach(ReachTask<'a>),
+    /// `diff [--explain | --no-explain] [--assume FILTER] OLD NEW BOX`: tell which packets a new ruleset
+    /// treats differently.
+    Diff(DiffTask<'a>),
     /// `explain CODE`: print what a code means.
     Explain(&'a str),
 }
@@ -81,6 +84,27 @@ pub struct CheckPaths<'a> {
     pub plant: &'a str,
 }
 
+/// A comparison of two rulesets.
+#[derive(Clone, Copy)]
+pub struct DiffTask<'a> {
+    pub explaining: Explaining,
+    /// FILTER, the file of a ruleset with one filter chain: only packets that it accepts are compared;
+    /// all packets where there is none.
+    pub assumed: Option<&'a str>,
+    pub paths: DiffPaths<'a>,
+}
+
+/// The paths of a comparison.
+#[derive(Clone, Copy)]
+pub struct DiffPaths<'a> {
+    /// OLD, the file of the ruleset so far.
+    pub old: &'a str,
+    /// NEW, the file of the ruleset that is to replace it.
+    pub new: &'a str,
+    /// BOX, the file of the box that both rulesets are for.
+    pub plant: &'a str,
+}
+
 impl Task<'_> {
     /// Whether faults are explained; `terminal` says whether standard error is one.
     pub fn is_explained(&self, terminal: bool) -> bool
@@ -90,6 +114,7 @@ impl Task<'_> {
             Task::Run(task) => task.explaining,
             Task::Check(task) => task.explaining,
             Task::Reach(task) => task.explaining,
+            Task::Diff(task) => task.explaining,
             Task::Explain(_) => Explaining::OnTerminal,
         };
         match explaining {

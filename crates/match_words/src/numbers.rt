@@ -13,14 +13,15 @@ pub(crate) fn meet(ranges: &[Numbers], from: u32, to: u32) -> bool {
         .any(|range| range.low <= to && from <= range.high)
 }
 
-/// The numbers up to the greatest that are in none of the ranges, which ascend.
+/// The numbers from the least to the greatest that are in none of the ranges, which ascend.
 pub(crate) fn others(
     alloc: Global,
     ranges: &[Numbers],
+    least: u32,
     greatest: u32,
 ) -> Result<Vec<Numbers>, AllocError> {
     let mut found = Vec::new(alloc);
-    let mut next = Some(0u32);
+    let mut next = Some(least);
     for range in ranges {
         let Some(low) = next else {
             break;

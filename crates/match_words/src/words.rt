@@ -2,6 +2,9 @@
 
 use fact_sets::FactField;
 
+/// The octets of an IPv4 header, which no packet is shorter than (RFC 791, "Total Length").
+const HEADER_LENGTH: u32 = 20;
+
 /// How the numbers of a field are written.
 #[derive(Clone, Copy, PartialEq, Eq)]
 pub(crate) enum Notation {
@@ -16,6 +19,8 @@ pub(crate) enum Notation {
 pub(crate) struct Plain<'a> {
     pub(crate) selector: &'a [u8],
     pub(crate) notation: Notation,
+    /// The least and the greatest number that packets can have there.
+    pub(crate) least: u32,
     pub(crate) greatest: u32,
 }
 
@@ -59,7 +64,7 @@ pub(crate) fn form_of(field: FactField) -> Form {
         FactField::Ecn => Form::TcpFlag(b"ecn"),
         FactField::Cwr => Form::TcpFlag(b"cwr"),
         FactField::IcmpType => selected(b"icmp type", Notation::IcmpType, 255),
-        FactField::Length => selected(b"ip length", Notation::Number, 65_535),
+        FactField::Length => ranged(b"ip length", Notation::Number, HEADER_LENGTH, 65_535),
         FactField::Ttl => selected(b"ip ttl", Notation::Number, 255),
         FactField::Mark => selected(b"meta mark", Notation::Number, u32::MAX),
         FactField::CtMark => selected(b"ct mark", Notation::Number, u32::MAX),
@@ -67,9 +72,14 @@ pub(crate) fn form_of(field: FactField) -> Form {
 }
 
 fn selected(selector: &'static [u8], notation: Notation, greatest: u32) -> Form {
+    ranged(selector, notation, 0, greatest)
+}
+
+fn ranged(selector: &'static [u8], notation: Notation, least: u32, greatest: u32) -> Form {
     Form::Plain(Plain {
         selector,
         notation,
+        least,
         greatest,
     })
 }

@@ -93,7 +93,7 @@ impl<'a> Writer<'a> {
     /// Writes ranges, or those that aren't among them where these are fewer; nothing where they are
     /// all numbers.
     fn put_numbers(&mut self, plain: Plain<'_>, numbers: &[Numbers]) -> Result<(), AllocError> {
-        let others = others(self.alloc, numbers, plain.greatest)?;
+        let others = others(self.alloc, numbers, plain.least, plain.greatest)?;
         if others.is_empty() {
             return Ok(());
         }
@@ -213,7 +213,7 @@ impl<'a> Writer<'a> {
         let mut words = self.words_of(Notation::Protocol, &self.protocols)?;
         if listed > PROTOCOL_COUNT / 2 {
             self.text.extend_from_slice(b" !=")?;
-            let others = others(self.alloc, &self.protocols, 255)?;
+            let others = others(self.alloc, &self.protocols, 0, 255)?;
             words = self.words_of(Notation::Protocol, &others)?;
         }
         put_choice(&mut self.text, &words)
@@ -232,6 +232,7 @@ impl<'a> Writer<'a> {
             Plain {
                 selector: &selector,
                 notation: Notation::Number,
+                least: 0,
                 greatest: 65_535,
             },
             numbers,

@@ -8,6 +8,8 @@ use Rattle.command_line.specs.declared.tasks.ReplayPaths.{ReplayPaths}
 use Rattle.command_line.specs.declared.tasks.Task.{Task}
 use Rattle.engine.specs.declared.fault.RunFault.{RunFault}
 use Rattle.engine.specs.declared.judging.Counts.{Counts}
+use Rattle.program.specs.declared.diffing.DiffInputs.{DiffInputs}
+use Rattle.program.specs.declared.fault.DiffFault.{DiffFault}
 use Rattle.program.specs.declared.fault.ReachFault.{ReachFault}
 use Rattle.program.specs.declared.identity.FileIdentity.{FileIdentity}
 use Rattle.program.specs.declared.running.RunFiles.{RunFiles}
@@ -44,6 +46,9 @@ pub data Call (Input Output : Type 0) : Type 0 where
   -- checks a ruleset's text for a box file's text, and prints which rules can be met and which policies can
   -- apply, and where it is so asked which packets reach and meet each rule; whether each rule can be met
   reach : Text → Text → Bool → Result Bool ReachFault → Call Input Output
+  -- checks two rulesets' texts, and that of a filter where there is one, for a box file's text, and prints what
+  -- the first two do differently with packets that the filter accepts; whether they do the same
+  diff : DiffInputs → Result Bool DiffFault → Call Input Output
   -- prints the line of a status
   print_status : Status → Call Input Output
   -- prints what the status of a task means, and where its fault is

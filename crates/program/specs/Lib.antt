@@ -6,6 +6,7 @@ pub mod Texts
 pub mod Replaying
 pub mod Examining
 pub mod Reaching
+pub mod Diffing
 pub mod Performing
 pub mod Outputs
 pub mod steps

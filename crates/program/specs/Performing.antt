@@ -4,9 +4,10 @@ use Rattle.clap.specs.declared.error.kind.ErrorKind.{ErrorKind}
 use Rattle.clap.specs.declared.error.kind.ErrorKind.TheVariants.{DisplayHelp, DisplayVersion, OutOfMemory}
 use Rattle.command_line.specs.CommandLine.{RequestsTask, are_explained, explaining_of, is_well_formed}
 use Rattle.command_line.specs.declared.tasks.Task.{Task}
-use Rattle.command_line.specs.declared.tasks.Task.TheVariants.{Run, Check, Reach, Explain}
+use Rattle.command_line.specs.declared.tasks.Task.TheVariants.{Run, Check, Reach, Diff, Explain}
 use Rattle.explanations.specs.Codes.{is_code}
 use Rattle.program.specs.Calls.{Call, Text, words, errors_to_terminal, explain_status, remark_on_capture, list_faults, warn_of_nft, explain, show, print_status}
+use Rattle.program.specs.Diffing.{Diffs}
 use Rattle.program.specs.Examining.{Examines}
 use Rattle.program.specs.Reaching.{Reaches}
 use Rattle.program.specs.Replaying.{Replays}
@@ -34,11 +35,12 @@ Shows code (show c (Ok _) ∷ []) status = (is_code code ≡ true) × (c ≡ cod
 Shows code (show c (Err error) ∷ []) status = (is_code code ≡ true) × (c ≡ code) × (status ≡ of_error error)
 Shows _ _ _ = ⊥
 
--- runs a task: `run`, `check`, `reach` or `explain`
+-- runs a task: `run`, `check`, `reach`, `diff` or `explain`
 abbrev pub RunsTask : {I O : Type 0} → Task → List (Call I O) → Status → Type 0
 RunsTask (Run task) calls status = Replays task calls status
 RunsTask (Check task) calls status = Examines task.texts calls status
 RunsTask (Reach task) calls status = Reaches task calls status
+RunsTask (Diff task) calls status = Diffs task calls status
 RunsTask (Explain code) calls status = Shows code.now calls status
 
 -- the line of a status that has one
@@ -56,6 +58,7 @@ abbrev pub remark_calls : {I O : Type 0} → Task → Status → List (Call I O)
 remark_calls (Run task) status = if is_replayed status then remark_on_capture task.paths ∷ [] else []
 remark_calls (Check task) status = []
 remark_calls (Reach task) status = []
+remark_calls (Diff task) status = []
 remark_calls (Explain code) status = []
 
 -- what a status that has a line means
@@ -86,6 +89,7 @@ abbrev pub nft_calls : {I O : Type 0} → Task → Status → List (Call I O)
 nft_calls (Run task) status = []
 nft_calls (Check task) status = if task.nft && is_success status then warn_of_nft task.texts ∷ [] else []
 nft_calls (Reach task) status = []
+nft_calls (Diff task) status = []
 nft_calls (Explain code) status = []
 
 -- what comes after the line

@@ -1,5 +1,5 @@
 -- Statuses and exit statuses (own): 0 done, 1 ruleset, 2 usage, 3 box file, 4 capture, 5 device, 6
--- memory, 7 torn, 8 a rule can't be met, 9 too large.
+-- memory, 7 torn, 8 a rule can't be met, 9 too large, 10 the rulesets differ.
 use Rattle.std.specs.Prelude.{ℕ, Bool, true, false, Result, Ok, Err}
 use Rattle.std.specs.IoError.{error_kind}
 use Rattle.std.specs.declared.io.Error.{Error}
@@ -7,11 +7,13 @@ use Rattle.std.specs.declared.io.ErrorKind.{ErrorKind}
 use Rattle.std.specs.declared.io.ErrorKind.TheVariants.{OutOfMemory, InvalidData}
 use Rattle.engine.specs.declared.fault.RunFault.{RunFault}
 use Rattle.engine.specs.declared.fault.RunFault.TheVariants as faults
+use Rattle.program.specs.declared.fault.DiffFault.{DiffFault}
+use Rattle.program.specs.declared.fault.DiffFault.TheVariants as diff_faults
 use Rattle.program.specs.declared.fault.ReachFault.{ReachFault}
 use Rattle.program.specs.declared.fault.ReachFault.TheVariants as reach_faults
 use Rattle.program.specs.declared.status.Status.{Status}
-use Rattle.program.specs.declared.status.Status.TheVariants.{Success, Rules, Usage, NotUtf8, SameFile, SameReport, UnknownCode, Box, Capture}
-use Rattle.program.specs.declared.status.Status.TheVariants.{Device, Memory, Torn, Unmet, TooLarge}
+use Rattle.program.specs.declared.status.Status.TheVariants.{Success, Rules, RulesIn, Usage, NotUtf8, SameFile, SameReport, UnknownCode, Box, Capture}
+use Rattle.program.specs.declared.status.Status.TheVariants.{Device, Memory, Torn, Unmet, TooLarge, Differ}
 
 abbrev pub of_fault : RunFault → Status
 of_fault (faults.Rules fault) = Rules fault
@@ -42,6 +44,20 @@ of_reach_fault reach_faults.TooLarge = TooLarge
 abbrev pub of_reach : Result Bool ReachFault → Status
 of_reach (Ok all_met) = of_met all_met
 of_reach (Err fault) = of_reach_fault fault
+
+-- the status of an answer to what two rulesets do differently: whether they do the same
+abbrev pub of_same : Bool → Status
+of_same true = Success
+of_same false = Differ
+
+abbrev pub of_diff_fault : DiffFault → Status
+of_diff_fault (diff_faults.Rules role fault) = RulesIn role fault
+of_diff_fault (diff_faults.Fault fault) = of_fault fault
+of_diff_fault diff_faults.TooLarge = TooLarge
+
+abbrev pub of_diff : Result Bool DiffFault → Status
+of_diff (Ok same) = of_same same
+of_diff (Err fault) = of_diff_fault fault
 
 -- the status of a failed system call
 abbrev pub of_kind : ErrorKind → Status
@@ -76,6 +92,7 @@ has_line _ = true
 abbrev pub code_of : Status → ℕ
 code_of Success = 0
 code_of (Rules fault) = 1
+code_of (RulesIn role fault) = 1
 code_of Usage = 2
 code_of NotUtf8 = 2
 code_of SameFile = 2
@@ -88,3 +105,4 @@ code_of Memory = 6
 code_of Torn = 7
 code_of Unmet = 8
 code_of TooLarge = 9
+code_of Differ = 10

@@ -1,5 +1,6 @@
-//! Why it isn't told which rules can be met.
-use engine::RunFault;
+//! Why it isn't told which rules can be met, or what two rulesets do differently.
+use crate::diffing::RulesetRole;
+use engine::{RulesFault, RunFault};
 use std::alloc::AllocError;
 use std::io;
 use thiserror::Error;
@@ -50,6 +51,36 @@ impl From<io::Error> for ReachFault {
         match error.kind() {
             io::ErrorKind::OutOfMemory => ReachFault::Fault(RunFault::Memory),
             _ => ReachFault::Fault(RunFault::Device),
+        }
+    }
+}
+
+/// Why it isn't told what two rulesets do differently.
+#[derive(Clone, Copy, Debug, Drop, Error)]
+pub enum DiffFault {
+    /// One of the rulesets is rejected.
+    #[error("{1} in {0}")]
+    Rules(RulesetRole, RulesFault),
+    /// The box file is rejected, a write failed, or an allocation.
+    #[error("{0}")]
+    Fault(RunFault),
+    /// The answer is too large to compute.
+    #[error("too large")]
+    TooLarge,
+}
+
+/// A failed system call.
+impl From<io::Error> for DiffFault {
+    ghost use Rattle.std.specs.Prelude.{◌≡◌};
+    ghost use Rattle.program.specs.Status.{fault_of_error};
+    ghost use Rattle.program.specs.declared.fault.DiffFault.{DiffFault};
+
+    ghost from_gives = { λ error fault. fault ≡ DiffFault.Fault (fault_of_error error) };
+
+    fn from(error: io::Error) -> DiffFault {
+        match error.kind() {
+            io::ErrorKind::OutOfMemory => DiffFault::Fault(RunFault::Memory),
+            _ => DiffFault::Fault(RunFault::Device),
         }
     }
 }

@@ -1,5 +1,6 @@
 //! The operating system's interface, abstracted for proofs.
-use crate::fault::ReachFault;
+use crate::diffing::DiffInputs;
+use crate::fault::{DiffFault, ReachFault};
 use crate::identity::FileIdentity;
 use crate::running::{RunFiles, RunInputs};
 use crate::status::Status;
@@ -20,8 +21,8 @@ use std::io;
 pub trait Host {
     ghost use Rattle.clap.specs.Values.{kind_of};
     ghost use Rattle.program.specs.Calls.{Call, words, errors_to_terminal, read, open_input, identify, draw_keys};
-    ghost use Rattle.program.specs.Calls.{create, run, judge, print_accepted, reach, print_status, explain_status};
-    ghost use Rattle.program.specs.Calls.{remark_on_capture, list_faults, warn_of_nft, show, explain, word_texts};
+    ghost use Rattle.program.specs.Calls.{create, run, judge, print_accepted, reach, diff, print_status};
+    ghost use Rattle.program.specs.Calls.{explain_status, remark_on_capture, list_faults, warn_of_nft, show, explain, word_texts};
     ghost use Rattle.program.specs.Calls.{bytes_of};
 
     /// A capture open for reading.
@@ -90,6 +91,12 @@ pub trait Host {
     /// with `sets` also which packets reach and meet each rule. Returns whether each rule can be met.
     fn reach(&mut self, rules: Vec<u8>, plant: &[u8], sets: bool) -> Result<bool, ReachFault>
         ensures { happens self.old (reach rules.items plant.now sets result) self.new };
+
+    /// Checks two rulesets, and a third one whose filter chain accepts the packets in question, where
+    /// there is one, each for a box, and prints to standard output what the first two do differently
+    /// with packets. Returns whether they do the same.
+    fn diff(&mut self, inputs: DiffInputs<'_>) -> Result<bool, DiffFault>
+        ensures { happens self.old (diff inputs.entry result) self.new };
 
     /// Prints the status's line to standard error. A failed write is ignored: the exit status
     /// remains.

@@ -1,6 +1,7 @@
 //! The program: what it does with its command line, its files, standard output and standard error.
 #![tactic(auto)]
 
+mod diffing;
 mod examining;
 mod fault;
 mod host;
@@ -12,8 +13,9 @@ mod replaying;
 mod running;
 mod status;
 
+pub use diffing::{DiffInputs, RulesetRole, diff};
 pub use examining::examine;
-pub use fault::ReachFault;
+pub use fault::{DiffFault, ReachFault};
 pub use host::Host;
 pub use identity::FileIdentity;
 pub use performing::perform;

@@ -8,6 +8,7 @@ ghost use Rattle.program.specs.Performing.{Explains, Performs, RunsTask, Shows, 
 ghost use Rattle.program.specs.Performing.{detail_calls, explanation_calls, is_replayed, is_success, meaning_calls};
 ghost use Rattle.program.specs.Performing.{nft_calls, remark_calls, status_line_calls, usage_status};
 
+use crate::diffing::diff;
 use crate::examining::examine;
 use crate::host::Host;
 use crate::reaching::reach;
@@ -84,6 +85,7 @@ fn run_task<H: Host>(host: &mut H, task: &Task<'_>) -> Status
         Task::Run(task) => replay(host, task),
         Task::Check(task) => examine(host, &task.texts),
         Task::Reach(task) => reach(host, task),
+        Task::Diff(task) => diff(host, task),
         Task::Explain(code) => show(host, code),
     }
 }
@@ -135,7 +137,7 @@ fn remark_on_capture<H: Host>(host: &mut H, status: Status, task: &Task<'_>)
                 host.remark_on_capture(&run.paths);
             }
         }
-        Task::Check(_) | Task::Reach(_) | Task::Explain(_) => {}
+        Task::Check(_) | Task::Reach(_) | Task::Diff(_) | Task::Explain(_) => {}
     }
 }
 
@@ -156,7 +158,7 @@ fn warn_of_nft<H: Host>(host: &mut H, status: Status, task: &Task<'_>)
                 host.warn_of_nft(&check.texts);
             }
         }
-        Task::Run(_) | Task::Reach(_) | Task::Explain(_) => {}
+        Task::Run(_) | Task::Reach(_) | Task::Diff(_) | Task::Explain(_) => {}
     }
 }
 

@@ -2,7 +2,8 @@
 ghost use Rattle.std.specs.Prelude.{◌≡◌, MatchResult};
 ghost use Rattle.program.specs.Status.{of_end, of_error, of_fault, of_words_error, has_line, code_of};
 
-use crate::fault::ReachFault;
+use crate::diffing::RulesetRole;
+use crate::fault::{DiffFault, ReachFault};
 use box_file::BoxFault;
 use engine::{RulesFault, RunFault};
 use pcap_io::CaptureFault;
@@ -13,6 +14,8 @@ use std::{fmt, io};
 pub enum Status {
     Success,
     Rules(RulesFault),
+    /// One of the rulesets of a comparison is rejected.
+    RulesIn(RulesetRole, RulesFault),
     /// The command line isn't understood; clap prints why.
     Usage,
     /// A word of the command line isn't UTF-8.
@@ -31,8 +34,11 @@ pub enum Status {
     Torn,
     /// A rule can't be met; which one is printed.
     Unmet,
-    /// Which rules can be met is too large to compute.
+    /// The answer to which rules can be met, or to what two rulesets do differently, is too large to
+    /// compute.
     TooLarge,
+    /// Two rulesets differ; in what is printed.
+    Differ,
 }
 
 impl Status {
@@ -86,7 +92,7 @@ impl Status {
     {
         match self {
             Status::Success => 0,
-            Status::Rules(_) => 1,
+            Status::Rules(_) | Status::RulesIn(_, _) => 1,
             Status::Usage
             | Status::NotUtf8
             | Status::SameFile
@@ -99,6 +105,7 @@ impl Status {
             Status::Torn => 7,
             Status::Unmet => 8,
             Status::TooLarge => 9,
+            Status::Differ => 10,
         }
     }
 }
@@ -139,6 +146,21 @@ impl From<ReachFault> for Status {
     }
 }
 
+impl From<DiffFault> for Status {
+    ghost use Rattle.std.specs.Prelude.{◌≡◌};
+    ghost use Rattle.program.specs.Status.{of_diff_fault};
+
+    ghost from_gives = { λ fault status. status ≡ of_diff_fault fault };
+
+    fn from(fault: DiffFault) -> Status {
+        match fault {
+            DiffFault::Rules(role, fault) => Status::RulesIn(role, fault),
+            DiffFault::Fault(fault) => Status::of(Err(&fault)),
+            DiffFault::TooLarge => Status::TooLarge,
+        }
+    }
+}
+
 /// The line for standard error, without its newline.
 impl fmt::Display for Status {
     ghost use Rattle.std.specs.Prelude.{Some};
@@ -152,6 +174,10 @@ impl fmt::Display for Status {
             Status::Rules(fault) => {
                 let code = fault.code();
                 write!(f, "nftrun: rules {code}")
+            }
+            Status::RulesIn(role, fault) => {
+                let code = fault.code();
+                write!(f, "nftrun: rules {code} in {role}")
             }
             Status::Usage => f.write_str("nftrun: usage"),
             Status::NotUtf8 => f.write_str("nftrun: usage: a word isn't UTF-8"),
@@ -177,6 +203,7 @@ impl fmt::Display for Status {
             Status::Torn => f.write_str("nftrun: capture torn"),
             Status::Unmet => f.write_str("nftrun: a rule can't be met"),
             Status::TooLarge => f.write_str("nftrun: too large"),
+            Status::Differ => f.write_str("nftrun: the rulesets differ"),
         }
     }
 }

@@ -4,7 +4,7 @@ use Rattle.std.specs.Prelude.{slice_get}
 use Rattle.std.specs.List.{flat_map}
 use Rattle.std.specs.Option.{option_map}
 use Rattle.nft_tree.specs.Tree.{Text}
-use Rattle.report.specs.Report.{end}
+use Rattle.set_texts.specs.Indented.{AreIndented}
 use Rattle.rule_reach.specs.declared.answers.Answer.{Answer}
 use Rattle.rule_reach.specs.declared.answers.Answer.TheVariants.{Met, NotReached, NotMatched}
 use Rattle.rule_reach.specs.declared.answers.RuleReach.{RuleReach}
@@ -47,11 +47,7 @@ with_reasons before (r ∷ rs) unmet =
 abbrev pub reasoned : ToldRule → Reasoned
 reasoned t = record { reach = t.reach; unmet = option_map (λ u. u.now) t.unmet; comes = t.comes }
 
--- lines, each behind two blanks
-abbrev pub AreIndented : Text → Type 0
-AreIndented text = (lines : List Text) × (text ≡ flat_map (λ line. codes "  " ++ line ++ end) lines)
-
--- below a line there are such lines where sets are wanted, or else none
+-- below a line there are lines behind two blanks where sets are wanted, or else none
 abbrev pub AreBelow : Bool → Text → Type 0
 AreBelow true text = AreIndented text
 AreBelow false text = text ≡ []

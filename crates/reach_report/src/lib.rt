@@ -5,7 +5,7 @@
 
 mod reach_lines;
 mod reporting;
-mod set_texts;
+mod sets_below;
 mod told;
 mod unmet_reasons;
 

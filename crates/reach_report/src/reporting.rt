@@ -5,7 +5,7 @@ ghost use Rattle.reach_report.specs.Reports.{AreAnswers, AreReasons, Reports};
 ghost use Rattle.reach_report.specs.steps.SetTexts.{HasSets};
 
 use crate::reach_lines::lines_of;
-use crate::set_texts::SetTexts;
+use crate::sets_below::SetTexts;
 use crate::told::{told_policies, told_rules};
 use crate::unmet_reasons::UnmetReasons;
 use rule_check::Checked;

@@ -4,7 +4,7 @@ ghost use Rattle.std.specs.Option.{option_map};
 ghost use Rattle.reach_report.specs.steps.SetTexts.{HasSets};
 ghost use Rattle.reach_report.specs.Told.{AreBelow, comes_by, is_reached, reason_at, reasons_behind, reasoned, with_reasons};
 
-use crate::set_texts::SetTexts;
+use crate::sets_below::SetTexts;
 use rule_reach::{Answer, PolicyReach, RuleReach, Unmet};
 use std::alloc::{AllocError, Global};
 

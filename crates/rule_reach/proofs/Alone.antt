@@ -1,5 +1,5 @@
 -- The packets that would meet a rule taken by itself.
-use Rattle.std.proofs.Common.{◌||◌, cond, true, ◌++◌, ◌≡◌, ◌∙◌, ◌<◌, ◌≤◌, ℕ, zero, suc, Bool, false, List, [], ◌∷◌, map, length, refl, ap, sym, subst, arith, Option, Some, None}
+use Rattle.std.proofs.Common.{◌||◌, cond, true, ◌≡◌, ◌∙◌, ◌≤◌, ℕ, zero, suc, Bool, false, List, [], ◌∷◌, map, length, refl, ap, sym, subst, Option, Some, None}
 use Rattle.std.proofs.Common.{slice_get, unwrap_or}
 use Rattle.std.specs.List.{AllZip, list_any}
 use Rattle.std.specs.Option.{option_map}
@@ -12,15 +12,14 @@ use Rattle.nft_tree.specs.Tree.{ChainTree, RuleTree, Statement, TableTree}
 use Rattle.nft_tree.specs.TableItems.{chains_of}
 use Rattle.box_file.specs.Box.{PlantTree}
 use Rattle.packet_sets.specs.declared.packet_set.PacketSet.{PacketSet}
-use Rattle.packet_sets.specs.Sets.{DiagramsView, Means, holds}
-use Rattle.rule_types.specs.Types.{rule_mismatches, statement_mismatches, table_mismatches}
+use Rattle.packet_sets.specs.Sets.{DiagramsView, Means}
+use Rattle.rule_types.specs.Types.{statement_mismatches, table_mismatches}
 use Rattle.rule_values.specs.Faults.{item_out_of_range, statement_out_of_range}
 use Rattle.rule_meaning.specs.declared.facts.Facts.{Facts}
 use Rattle.rule_meaning.specs.declared.facts.Interface.{Interface}
 use Rattle.rule_meaning.specs.Runs.{table_program}
 use Rattle.fact_sets.specs.Boxes.{NOTHING}
 use Rattle.fact_sets.specs.Facts.{facts_of}
-use Rattle.fact_sets.proofs.SetLaws.{means_as}
 use Rattle.fact_sets.specs.declared.cases.Case.{Case}
 use Rattle.fact_sets.specs.declared.readings.Reader.{Reader}
 use Rattle.fact_sets.specs.Effects.{seen}
@@ -31,9 +30,9 @@ use Rattle.rule_sets.specs.Ends.{AddsEnds, RuleEnd, end_for, outcomes_for, rule_
 use Rattle.rule_sets.specs.Interfaces.{interfaces_of}
 use Rattle.chain_sets.specs.steps.Rules.{rules_in}
 use Rattle.chain_sets.specs.steps.Walking.{statements_in}
-use Rattle.chain_sets.proofs.TableRules.{beyond, bounds-free, program-rules, rule_out_of_range, types-free}
-use Rattle.rule_reach.specs.Reach.{program_at, table_at}
-use Rattle.rule_reach.specs.Takers.{meets_alone, meets_statements, numbered}
+use Rattle.chain_sets.proofs.TableRules.{bounds-free, types-free}
+use Rattle.chain_ways.specs.BaseWays.{table_at}
+use Rattle.rule_reach.specs.Takers.{meets_statements, numbered}
 use Rattle.std.proofs.Math.ListN.{set}
 use Rattle.rule_reach.proofs.Bases.{zipped}
 use Rattle.rule_reach.specs.steps.Alone.{MeansAlone, statements_at}

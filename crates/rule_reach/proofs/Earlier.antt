@@ -1,7 +1,6 @@
 -- A way comes to a rule of a chain only behind the rule before it there.
-use Rattle.std.proofs.Common.{◌≡◌, ◌∙◌, ◌+◌, ◌≤◌, ◌==◌, ◌&&◌, ◌||◌, ℕ, zero, suc, Bool, true, false, List, [], ◌∷◌, ◌++◌, ap, sym, refl, arith, inl, inr}
-use Rattle.std.proofs.Common.{◌⊎◌, ◌-◌, Option, Some, None, unwrap_or, eq-eqb, add-zero, add-suc, subst}
-use Rattle.std.specs.List.{list_any}
+use Rattle.std.proofs.Common.{◌≡◌, ◌∙◌, ◌+◌, ◌≤◌, ◌==◌, ◌&&◌, ◌||◌, ℕ, zero, suc, Bool, true, false, List, [], ◌∷◌, sym, refl, arith, inl, inr}
+use Rattle.std.proofs.Common.{◌⊎◌, ◌-◌, Option, Some, None, unwrap_or, eq-eqb, add-zero, subst}
 use Rattle.std.proofs.lemmas.Bool.{and_parts, eqb-true, or_cases}
 use Rattle.std.proofs.lemmas.List.Folds.{list_any-append}
 use Rattle.rule_meaning.specs.declared.event.RuleVerdict.{RuleVerdict}
@@ -9,7 +8,7 @@ use Rattle.rule_meaning.specs.declared.event.RuleVerdict.TheVariants as verdicts
 use Rattle.rule_meaning.specs.declared.facts.Facts.{Facts}
 use Rattle.rule_meaning.specs.Runs.{Program}
 use Rattle.rule_sets.specs.Ends.{rule_end}
-use Rattle.chain_ways.specs.Ways.{Visit, Way, WayEnd, after_rule, after_verdict, comes_to, end_behind_chain, ended, is_of_rule, over, then_back, way, way_by}
+use Rattle.chain_ways.specs.Ways.{Way, WayEnd, after_verdict, comes_to, end_behind_chain, ended, is_of_rule, over, then_back, way, way_by}
 
 -- the left or the right is so
 or_left : (x y : Bool) → x ≡ true → (x || y) ≡ true

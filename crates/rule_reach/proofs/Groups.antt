@@ -11,7 +11,8 @@ use Rattle.rule_meaning.specs.Hooks.{BaseChain}
 use Rattle.rule_reach.specs.declared.answers.Answer.{Answer}
 use Rattle.rule_reach.specs.declared.answers.Answer.TheVariants.{Met, NotMatched, NotReached}
 use Rattle.chain_ways.specs.Ways.{is_of_rule}
-use Rattle.rule_reach.specs.Reach.{IsAnswer, NoPacket, SomePacket, base_way, comes_at, meets_at}
+use Rattle.rule_reach.specs.Reach.{IsAnswer, NoPacket, SomePacket, comes_at, meets_at}
+use Rattle.chain_ways.specs.BaseWays.{base_way}
 use Rattle.rule_reach.specs.steps.Answering.{better}
 
 pub contains_one : {X : Type 0} (b x : X) → Contains (b ∷ []) x → b ≡ x

@@ -1,12 +1,12 @@
 -- The sets of base chains, as the diagrams grow.
-use Rattle.std.proofs.Common.{◌≡◌, ◌∙◌, ◌&&◌, ℕ, Bool, List, [], ◌∷◌, ◌++◌, map, refl, ap, sym, subst, Some, slice_get, ◌≤◌, arith, lit≤}
-use Rattle.std.specs.List.{AllZip, list_any}
+use Rattle.std.proofs.Common.{◌≡◌, ◌∙◌, ◌&&◌, ℕ, Bool, List, [], ◌∷◌, ◌++◌, map, ap, sym, subst, Some, slice_get, ◌≤◌, lit≤}
+use Rattle.std.specs.List.{list_any}
 use Rattle.std.proofs.lemmas.Option.{get_or_from_slice_get}
 use Rattle.std.proofs.lemmas.Slice.Zip.{all_zipped_more}
 use Rattle.nft_tree.specs.Tree.{Statement, TableTree}
 use Rattle.box_file.specs.Box.{PlantTree}
 use Rattle.packet_sets.specs.declared.packet_set.PacketSet.{PacketSet}
-use Rattle.packet_sets.specs.Sets.{DiagramsView, IsSet, Keeps, Means, holds}
+use Rattle.packet_sets.specs.Sets.{DiagramsView, IsSet, Keeps, Means}
 use Rattle.rule_meaning.specs.declared.facts.Facts.{Facts}
 use Rattle.rule_meaning.specs.declared.facts.Interface.{Interface}
 use Rattle.rule_meaning.specs.Hooks.{BaseChain}
@@ -25,7 +25,7 @@ use Rattle.chain_sets.specs.Ends.{end_of}
 use Rattle.chain_sets.specs.RuleSets.{sets_of}
 use Rattle.rule_reach.specs.declared.sets.BaseSets.{BaseSets}
 use Rattle.coming_sets.specs.Coming.{can_come}
-use Rattle.rule_reach.specs.Reach.{LEVELS, table_at}
+use Rattle.chain_ways.specs.BaseWays.{LEVELS, table_at}
 use Rattle.rule_reach.specs.Sets.{AreBaseSets, AreSetsOf}
 
 pub enough : 256 ≤ LEVELS

@@ -1,21 +1,17 @@
 -- What sets of packets tell of packets that come to a base chain.
 use Rattle.std.proofs.Common.{◌≡◌, ◌∙◌, ◌&&◌, ◌==◌, inl, inr, not, ℕ, Bool, true, false, List, [], ◌∷◌, ◌++◌, map, refl, ap, sym, subst, arith, is_some}
-use Rattle.std.proofs.Common.{Some, None, Option, slice_get, length, All, eq-eqb, ◌<◌, ◌≤◌, get_or, lit≤}
+use Rattle.std.proofs.Common.{Some, None, Option, length, All, eq-eqb, ◌<◌, get_or}
 use Rattle.std.specs.List.{AllZip, list_any}
 use Rattle.std.proofs.lemmas.Bool.{and_parts, eqb-true, false_from_ne_true}
 use Rattle.std.proofs.lemmas.List.{map-append}
 use Rattle.std.proofs.lemmas.List.Elements.{All-push, All-weaker, AllZip-get_or, Contains-append_left, Contains-append_right, length_all_zip}
-use Rattle.std.proofs.lemmas.Option.{get_or_from_slice_get}
 use Rattle.nft_tree.specs.declared.ruleset.RuleNo.{RuleNo}
-use Rattle.nft_tree.specs.Tree.{Statement, TableTree}
+use Rattle.nft_tree.specs.Tree.{TableTree}
 use Rattle.box_file.specs.Box.{PlantTree}
-use Rattle.packet_sets.specs.declared.packet_set.PacketSet.{PacketSet}
-use Rattle.packet_sets.specs.Sets.{DiagramsView, Means, holds}
+use Rattle.packet_sets.specs.Sets.{DiagramsView, holds}
 use Rattle.rule_meaning.specs.declared.facts.Facts.{Facts}
-use Rattle.rule_meaning.specs.declared.facts.Interface.{Interface}
 use Rattle.rule_meaning.specs.declared.event.HookVerdict.{HookVerdict}
 use Rattle.rule_meaning.specs.Hooks.{BaseChain}
-use Rattle.fact_sets.specs.declared.cases.Case.{Case}
 use Rattle.fact_sets.specs.Boxes.{NOTHING}
 use Rattle.fact_sets.specs.Facts.{facts_of}
 use Rattle.fact_sets.proofs.BoxLaws.{have_bits}
@@ -32,8 +28,9 @@ use Rattle.rule_reach.specs.declared.answers.Reach.{Reach}
 use Rattle.rule_reach.specs.declared.answers.RuleReach.{RuleReach}
 use Rattle.rule_reach.specs.declared.sets.BaseSets.{BaseSets}
 use Rattle.coming_sets.specs.Coming.{can_come}
-use Rattle.rule_reach.specs.Reach.{Applies, IsAnswer, IsPolicyReach, NoPacket, SomePacket, base_way, comes_at, ends_at, is_end, meets_at}
-use Rattle.rule_reach.specs.Reach.{program_at}
+use Rattle.rule_reach.specs.Reach.{Applies, IsAnswer, IsPolicyReach, NoPacket, SomePacket, comes_at, ends_at, is_end, meets_at}
+use Rattle.chain_ways.specs.BaseWays.{base_way}
+use Rattle.chain_ways.specs.BaseWays.{program_at}
 use Rattle.rule_reach.specs.Sets.{AreBaseSets}
 use Rattle.rule_reach.specs.steps.Rules.{IsReach}
 use Rattle.rule_reach.specs.steps.Telling.{IsAnswerBy, IsHere, IsTold, SomeEnd, at_end}

@@ -1,6 +1,6 @@
 -- Which rules take packets, told by sets.
 use Rattle.std.proofs.Common.{◌≡◌, ◌∙◌, ◌&&◌, ◌||◌, ◌==◌, ◌<◌, ◌≤◌, ◌+◌, not, ℕ, Bool, true, false, List, [], ◌∷◌, ◌++◌, length, max, refl, ap, sym, subst}
-use Rattle.std.proofs.Common.{arith, inl, inr, length-append, eq-eqb, Contains, get_or, ◌⊎◌}
+use Rattle.std.proofs.Common.{arith, inl, inr, length-append, eq-eqb, Contains, get_or}
 use Rattle.std.specs.List.Sorted.{IsStrictlyIncreasing}
 use Rattle.std.proofs.lemmas.Bool.{and_parts, cases_order, eqb-true, false_from_ne_true}
 use Rattle.std.proofs.lemmas.Grind.{get_or_default_zero}
@@ -14,14 +14,14 @@ use Rattle.rule_meaning.specs.declared.facts.Facts.{Facts}
 use Rattle.rule_meaning.specs.Hooks.{BaseChain}
 use Rattle.fact_sets.specs.Boxes.{NOTHING}
 use Rattle.fact_sets.specs.Facts.{facts_of}
-use Rattle.fact_sets.proofs.SetLaws.{means_kept}
 use Rattle.rule_sets.specs.Interfaces.{interfaces_of}
 use Rattle.chain_ways.specs.Ways.{comes_to}
 use Rattle.chain_sets.specs.RuleSets.{sets_of}
 use Rattle.rule_reach.specs.declared.sets.BaseSets.{BaseSets}
-use Rattle.rule_reach.specs.Reach.{LEVELS, NoPacket, SomePacket, base_way, comes_at, program_at}
+use Rattle.rule_reach.specs.Reach.{NoPacket, SomePacket, comes_at}
+use Rattle.chain_ways.specs.BaseWays.{LEVELS, base_way, program_at}
 use Rattle.rule_reach.specs.Sets.{AreBaseSets}
-use Rattle.rule_reach.specs.Takers.{AreTakers, IsTaker, Whether, comes_for, meets_alone, rule_beside, takes, would_meet}
+use Rattle.rule_reach.specs.Takers.{AreTakers, Whether, comes_for, meets_alone, rule_beside, takes, would_meet}
 use Rattle.rule_reach.specs.steps.Alone.{MeansAlone}
 use Rattle.rule_reach.specs.steps.Telling.{HasPacket}
 use Rattle.rule_reach.proofs.Earlier.{both_so, comes_earlier}

@@ -1,18 +1,17 @@
 -- What packets do at each rule of a ruleset, and whether a policy applies to any. A packet is one that can
 -- come to a base chain, whatever other base chains did before. (own, but for what the ways of packets are)
 use Rattle.std.specs.Prelude.{◌≡◌, ℕ, suc, ◌+◌, ◌==◌, ◌&&◌, Bool, true, false, List, [], ◌∷◌, ◌++◌, filter}
-use Rattle.std.specs.Prelude.{Contains, slice_index_or}
-use Rattle.nft_tree.specs.declared.ruleset.Family.TheVariants.{Ip}
+use Rattle.std.specs.Prelude.{Contains}
 use Rattle.nft_tree.specs.declared.ruleset.RuleNo.{RuleNo}
-use Rattle.nft_tree.specs.Tree.{ChainTree, RuleTree, Statement, TableTree}
+use Rattle.nft_tree.specs.Tree.{ChainTree, RuleTree, TableTree}
 use Rattle.nft_tree.specs.TableItems.{chains_of}
 use Rattle.box_file.specs.Box.{PlantTree}
 use Rattle.rule_meaning.specs.declared.facts.Facts.{Facts}
 use Rattle.rule_meaning.specs.Hooks.{BaseChain, base_chains_of}
-use Rattle.rule_meaning.specs.Runs.{Program, table_program}
 use Rattle.fact_sets.specs.Boxes.{IsOfBox}
 use Rattle.rule_sets.specs.Interfaces.{interfaces_of}
-use Rattle.chain_ways.specs.Ways.{Way, WayEnd, comes_to, ended, meets, over, way}
+use Rattle.chain_ways.specs.Ways.{WayEnd, comes_to, ended, meets, over}
+use Rattle.chain_ways.specs.BaseWays.{base_way, program_at}
 use Rattle.rule_reach.specs.declared.answers.Answer.{Answer}
 use Rattle.rule_reach.specs.declared.answers.Answer.TheVariants.{Met, NotMatched, NotReached}
 use Rattle.rule_reach.specs.declared.answers.PolicyReach.{PolicyReach}
@@ -45,23 +44,7 @@ rules_of = rules_of_tables 0
 abbrev pub run_chains : List TableTree → List BaseChain
 run_chains tables = filter runs (base_chains_of tables)
 
--- ---- ways
-
--- more than a base chain of a well-formed ruleset costs; each jump and goto costs 1, so more than chains lie
--- in one another
-unfoldable pub LEVELS : ℕ
-LEVELS = 65537
-
--- the table with the index; one without chains where there is none
-abbrev pub table_at : List TableTree → ℕ → TableTree
-table_at tables n = slice_index_or tables n (record { family = Ip; name = []; items = [] })
-
-abbrev pub program_at : PlantTree → List TableTree → ℕ → Program Statement
-program_at plant tables n = table_program plant n (table_at tables n)
-
--- the way of a packet through the base chain
-abbrev pub base_way : PlantTree → List TableTree → BaseChain → Facts → Way Statement
-base_way plant tables b f = way (program_at plant tables b.number.table) LEVELS b.number.chain f
+-- ---- packets that come
 
 -- a packet with these facts comes to the base chain
 pub record Comes (plant : PlantTree) (b : BaseChain) (f : Facts) : Type 0 where

@@ -13,7 +13,8 @@ use Rattle.chain_sets.specs.RuleSets.{sets_of}
 use Rattle.rule_reach.specs.declared.sets.BaseSets.{BaseSets}
 use Rattle.rule_reach.specs.declared.sets.ReachSets.{ReachSets}
 use Rattle.coming_sets.specs.Coming.{can_come}
-use Rattle.rule_reach.specs.Reach.{base_way, program_at, run_chains}
+use Rattle.rule_reach.specs.Reach.{run_chains}
+use Rattle.chain_ways.specs.BaseWays.{base_way, program_at}
 
 module _ (plant : PlantTree) (tables : List TableTree) where
   -- of these diagrams, the sets are those of the base chain: the packets that can come to it, and on their ways

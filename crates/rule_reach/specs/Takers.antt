@@ -1,5 +1,5 @@
 -- Which rules take the packets that would meet a rule which none meets. (own)
-use Rattle.std.specs.Prelude.{◌≡◌, ◌↔◌, ℕ, zero, suc, ◌+◌, ◌<◌, ◌≤◌, ◌==◌, ◌&&◌, not, Bool, true, false, List, []}
+use Rattle.std.specs.Prelude.{◌↔◌, ℕ, zero, suc, ◌+◌, ◌<◌, ◌≤◌, ◌==◌, ◌&&◌, not, Bool, true, false, List, []}
 use Rattle.std.specs.Prelude.{Contains, Option, Some, None, slice_get, unwrap_or}
 use Rattle.std.specs.List.Sorted.{IsStrictlyIncreasing}
 use Rattle.nft_tree.specs.declared.ruleset.RuleNo.{RuleNo}
@@ -13,7 +13,8 @@ use Rattle.rule_reach.specs.declared.answers.Answer.{Answer}
 use Rattle.rule_reach.specs.declared.answers.Answer.TheVariants.{Met}
 use Rattle.rule_reach.specs.declared.answers.RuleReach.{RuleReach}
 use Rattle.rule_reach.specs.declared.answers.Unmet.{Unmet}
-use Rattle.rule_reach.specs.Reach.{NoPacket, SomePacket, comes_at, program_at}
+use Rattle.rule_reach.specs.Reach.{NoPacket, SomePacket, comes_at}
+use Rattle.chain_ways.specs.BaseWays.{program_at}
 
 abbrev pub not_met : Answer → Bool
 not_met Met = false

@@ -33,7 +33,8 @@ use Rattle.stepping.specs.Next.{AfterLookUp, HooksAndConfirm, LookUp, Path, entr
 use Rattle.same_runs.specs.Coming as coming
 use Rattle.same_runs.specs.Coming.{IsSeenBy, StandsBefore, stage_behind_routing}
 use Rattle.same_runs.proofs.Events.{chains_blind}
-use Rattle.same_runs.specs.Same.{GoesOn, SameAt, SameResult, with_rules, without_events}
+use Rattle.same_results.specs.Same.{GoesOn, SameAt, SameResult}
+use Rattle.same_runs.specs.Same.{with_rules, without_events}
 
 -- ---- steps
 

@@ -23,7 +23,8 @@ use Rattle.stepping.specs.Next.{EntryOf, IsHistoryOf, Next, live_at_record, mome
 use Rattle.stepping.specs.Paths.{PathState}
 use Rattle.same_runs.specs.Coming as coming
 use Rattle.same_runs.specs.Coming.{AreBytes, HistoryOfBytes, IsSeenBy, StandsBefore}
-use Rattle.same_runs.specs.Same.{SameAt, SameHistories, SameOutputs, SameStages, with_rules, without_events}
+use Rattle.same_results.specs.Same.{SameAt}
+use Rattle.same_runs.specs.Same.{SameHistories, SameOutputs, SameStages, with_rules, without_events}
 use Rattle.same_runs.proofs.Paths.{entry_alike, path_leads}
 
 -- ---- what reads no events

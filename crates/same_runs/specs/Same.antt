@@ -1,35 +1,15 @@
 -- When two rulesets do the same at each stage of hooks, and what of two runs is the same. (own)
 use Rattle.std.specs.Prelude.{◌≡◌, ℕ, Bool, List, [], length, map}
 use Rattle.nft_tree.specs.Tree.{TableTree}
-use Rattle.box_file.specs.Box.{PlantTree}
 use Rattle.rule_meaning.specs.declared.facts.Facts.{Facts}
-use Rattle.rule_meaning.specs.declared.event.HookVerdict.{HookVerdict}
-use Rattle.rule_meaning.specs.declared.event.HookVerdict.TheVariants.{Dropped}
 use Rattle.rule_meaning.specs.declared.stage.HookStage.{HookStage}
-use Rattle.rule_meaning.specs.Hooks.{HookResult, Stage}
+use Rattle.same_results.specs.Same.{SameAt}
 use Rattle.history.specs.Setup.{Setup}
 use Rattle.history.specs.History.{Entry, capture_text, live_in}
 use Rattle.report.specs.Report.{totals}
 use Rattle.same_runs.specs.Coming.{ComesTo}
 
 -- ---- rulesets
-
--- a packet goes on behind chains with this verdict
-abbrev pub GoesOn : HookVerdict → Type 0
-GoesOn Dropped = ⊥
-GoesOn _ = Unit {0}
-
--- the same verdict, a NAT statement's with its addresses and ports; and the same facts, marks and `notrack`
--- among them, where the packet goes on: nothing reads those of one that is dropped
-pub record SameResult (result other : HookResult) : Type 0 where
-  pub verdict : result.verdict ≡ other.verdict
-  pub facts : GoesOn result.verdict → result.facts ≡ other.facts
-
--- with these facts a packet has the same results in the stage by both rulesets
-abbrev pub SameAt : PlantTree → (old new : List TableTree) → HookStage → Facts → Type 0
-SameAt plant old new stage f =
-    (result other : HookResult) → Stage stage plant old f [] result → Stage stage plant new f [] other
-    → SameResult result other
 
 -- the box with another ruleset
 abbrev pub with_rules : List TableTree → Setup → Setup

@@ -12,8 +12,8 @@ use rule_check::{Checked, check};
 use rule_reach::ReachError;
 use std::alloc::Global;
 
-/// The limit of a set of packets: as many nodes has its diagram at most.
-const NODES: u32 = 1 << 23;
+/// The limit of sets of packets: as many nodes have their diagrams at most.
+pub(crate) const NODES: u32 = 1 << 23;
 
 /// Checks a ruleset on a box, and tells what can be met of it; with `sets` also by which packets.
 pub(crate) fn analyze(
@@ -33,7 +33,7 @@ pub(crate) fn analyze(
 }
 
 /// Reads both texts and checks the ruleset on the box.
-fn checked(alloc: Global, rules: &[u8], plant: &[u8]) -> Result<Checked, RunFault>
+pub(crate) fn checked(alloc: Global, rules: &[u8], plant: &[u8]) -> Result<Checked, RunFault>
     ensures fine { IfOk result (λ checked. IsChecked rules.now plant.now checked) }
     ensures refused { IfErr result (λ fault. JudgeRefuses rules.now plant.now fault) }
 {

@@ -2,11 +2,11 @@
 use crate::destination::Destination;
 use box_file::Plant;
 use capture_remarks::{Fullness, SecondRun, Texts, capture_location, remarks, table_remarks};
-use command_line::{ReplayPaths, Task};
+use command_line::{DiffTask, ReplayPaths, Task};
 use engine::RulesFault;
 use fault_advice::explained;
 use fault_location::{Fault, SourcePaths, Sources, all_faults};
-use program::Status;
+use program::{RulesetRole, Status};
 use reach_report::UnmetReasons;
 use std::hash::RandomState;
 use std::random::RandomSource;
@@ -24,7 +24,10 @@ as of one table or base chain, or write rules that test fewer fields.";
 /// The location is a heuristic: no contract says which one is reported. Regular files are read
 /// again for it; a pipe has been read already.
 pub fn explain_status<R: Files + Eprint + AllocGlobal>(rt: &R, status: Status, task: &Task<'_>) {
-    if let (Some(fault), Some(paths)) = (fault_of(status), source_paths(task)) {
+    if let (Some(fault), Some(paths)) = (
+        fault_of(status),
+        source_paths(task, rejected_role(status)),
+    ) {
         let _ = print_faults(rt, Some(fault), paths);
     }
     if let Task::Run(run) = task {
@@ -49,8 +52,9 @@ fn print_unmet<R: Eprint + AllocGlobal>(
     eprint!(rt; "{}", lines.as_str())
 }
 
-/// The paths of the ruleset and the box of a task that has them.
-fn source_paths<'a>(task: &Task<'a>) -> Option<SourcePaths<'a>> {
+/// The paths of the ruleset and the box of a task that has them; of a comparison those of the ruleset
+/// in this role.
+fn source_paths<'a>(task: &Task<'a>, role: RulesetRole) -> Option<SourcePaths<'a>> {
     match task {
         Task::Run(run) => Some(SourcePaths {
             rules: run.paths.rules,
@@ -64,15 +68,40 @@ fn source_paths<'a>(task: &Task<'a>) -> Option<SourcePaths<'a>> {
             rules: reach.texts.rules,
             plant: reach.texts.plant,
         }),
+        Task::Diff(diff) => Some(SourcePaths {
+            rules: path_of(diff, role),
+            plant: diff.paths.plant,
+        }),
         Task::Explain(_) => None,
+    }
+}
+
+/// The path of the ruleset of a comparison in this role.
+fn path_of<'a>(diff: &DiffTask<'a>, role: RulesetRole) -> &'a str {
+    match role {
+        RulesetRole::Old => diff.paths.old,
+        RulesetRole::New => diff.paths.new,
+        RulesetRole::Filter => diff.assumed.unwrap_or(""),
+    }
+}
+
+/// Which ruleset of a comparison the status rejects.
+fn rejected_role(status: Status) -> RulesetRole {
+    match status {
+        Status::RulesIn(role, _) => role,
+        _ => RulesetRole::Old,
     }
 }
 
 /// The fault of a status, if it has one.
 fn fault_of(status: Status) -> Option<Fault> {
     match status {
-        Status::Rules(RulesFault::Text(fault)) => Some(Fault::Text(fault)),
-        Status::Rules(RulesFault::Check(fault)) => Some(Fault::Check(fault)),
+        Status::Rules(RulesFault::Text(fault)) | Status::RulesIn(_, RulesFault::Text(fault)) => {
+            Some(Fault::Text(fault))
+        }
+        Status::Rules(RulesFault::Check(fault)) | Status::RulesIn(_, RulesFault::Check(fault)) => {
+            Some(Fault::Check(fault))
+        }
         Status::Box(fault) => Some(Fault::Box(fault)),
         Status::Capture(fault) => Some(Fault::Capture(fault)),
         _ => None,
@@ -81,7 +110,7 @@ fn fault_of(status: Status) -> Option<Fault> {
 
 /// Prints all faults of a check's ruleset and box to standard error, as far as they can be located.
 pub fn list_faults<R: Files + Eprint + AllocGlobal>(rt: &R, task: &Task<'_>) {
-    if let Some(paths) = source_paths(task) {
+    if let Some(paths) = source_paths(task, RulesetRole::Old) {
         let _ = print_faults(rt, None, paths);
     }
 }

@@ -3,6 +3,7 @@
 
 mod analysis;
 mod closed_pipe;
+mod comparison;
 mod destination;
 mod diagnosis;
 mod system;

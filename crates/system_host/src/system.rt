@@ -4,6 +4,7 @@ ghost use Rattle.system_host.specs.steps.Promised.{IsGuaranteed, held_by};
 
 use crate::analysis::analyze;
 use crate::closed_pipe::{PipeWriter, is_closed_pipe};
+use crate::comparison::compare;
 use crate::destination::Destination;
 use crate::diagnosis::{
     explain_status, explain_unmet, list_faults, remark_on_capture, warn_of_nft,
@@ -14,8 +15,8 @@ use engine::{Counts, RunFault};
 use explanations::Explanation;
 use pcap_io::Counted;
 use program::{
-    FileIdentity, Host, Progress, ProgressLine, ProgressReader, ReachFault, RunFiles, RunInputs,
-    Status, perform, run_with_progress,
+    DiffFault, DiffInputs, FileIdentity, Host, Progress, ProgressLine, ProgressReader, ReachFault,
+    RunFiles, RunInputs, Status, perform, run_with_progress,
 };
 use reach_report::UnmetReasons;
 use std::env::{self, Env};
@@ -146,7 +147,8 @@ impl<'a, R: Clock + Env + Files + Print + Eprint + RandomSource + AllocGlobal> H
     type Output = Counted<Destination<R::File>>;
 
     // What files hold can't be stated. What the engine guarantees of a run for its texts and its
-    // capture can, and so can what it guarantees of a check, and of the texts of an analysis.
+    // capture can, and so can what it guarantees of a check, and of the texts of an analysis or a
+    // comparison.
     ghost happens = { λ _ call _.
         IsGuaranteed (capture_bytes R.File.remaining) (held_by R.File.contents) call };
 
@@ -248,6 +250,14 @@ impl<'a, R: Clock + Env + Files + Print + Eprint + RandomSource + AllocGlobal> H
         self.unmet = Some(found.unmet);
         self.keep("standard output", answer)?;
         Ok(found.is_met)
+    }
+
+    fn diff(&mut self, inputs: DiffInputs<'_>) -> Result<bool, DiffFault> {
+        let rt = self.rt;
+        let found = compare(rt.alloc(), inputs)?;
+        let answer = io::writer(rt).write_all(&found.text);
+        self.keep("standard output", answer)?;
+        Ok(found.same)
     }
 
     fn print_status(&mut self, status: Status) {

@@ -13,12 +13,26 @@ HEADINGS = ("## First ten minutes", "## One change, from edit to load")
 BLOCK = re.compile(r"```sh\n(.*?)```", re.S)
 # A line of the block says behind `# prints` how a line of its output begins.
 PRINTS = re.compile(r"# prints (.*)$")
+# What commands end with where something differs: the status, and the line on standard error.
+DIFFERS = {"nftrun compare": (1, ""), "nftrun diff": (10, "nftrun: the rulesets differ")}
 
 
 def lines_of(readme: str) -> list[str]:
     sections = [readme.split(it, 1)[1].split("\n## ", 1)[0] for it in HEADINGS if it in readme]
     blocks = [block for section in sections for block in BLOCK.findall(section)]
     return [line for block in blocks for line in block.splitlines() if line.strip()]
+
+
+def is_right(line: str, status: int, errors: str) -> bool:
+    """Whether a line of the block ended as it is to."""
+    word = " ".join(line.split()[:2])
+    return (status, errors.strip()) in ((0, ""), DIFFERS.get(word, (0, "")))
+
+
+def is_printed(line: str, output: str) -> bool:
+    """Whether it printed what stands behind it."""
+    wanted = PRINTS.search(line)
+    return not wanted or any(it.startswith(wanted[1]) for it in output.splitlines())
 
 
 def test_minutes(trial: Trial, prefix: Path) -> None:
@@ -31,10 +45,7 @@ def test_minutes(trial: Trial, prefix: Path) -> None:
     path = f"{prefix / 'bin'}:{os.environ.get('PATH', '')}"
     for line in lines:
         ended = run(["sh", "-c", line.replace("/usr/share/doc/nftrun", str(prefix / SHARE))], folder, PATH=path)
-        # compare ends with 1 where something differs
-        right = ended.status in ((0, 1) if line.startswith("nftrun compare") else (0,)) and not ended.err
-        trial.expect(right, f"README: {line}: status {ended.status}, {ended.err.strip()}")
-        wanted = PRINTS.search(line)
-        is_printed = not wanted or any(it.startswith(wanted[1]) for it in ended.out.splitlines())
-        trial.expect(is_printed, f"README: {line}: prints {ended.out[:80]!r}")
+        trial.expect(is_right(line, ended.status, ended.err),
+                     f"README: {line}: status {ended.status}, {ended.err.strip()}")
+        trial.expect(is_printed(line, ended.out), f"README: {line}: prints {ended.out[:80]!r}")
     print(f"install: README's first ten minutes, {len(lines)} lines, in {time.monotonic() - began:.1f} s")

@@ -12,7 +12,7 @@ from release.words import PROGRAM_WORDS, TOOLS
 
 WORDS = (*PROGRAM_WORDS, *(tool.word for tool in TOOLS))
 # Options of a word of the program with which a command takes its place.
-OF_COMMANDS = {"reach": {"--packets"}}
+OF_COMMANDS = {"diff": {"--packets"}, "reach": {"--packets"}}
 NEVER = "--no-such-option"
 # More arguments than any word wants: no file has this name, and nothing is run, since NEVER is refused.
 FILES = ("1", "1", "1", "1")

@@ -53,9 +53,18 @@ HITS = {
     "type nat hook prerouting priority dstnat; policy accept;": ("3,780", "3,780"),
     'oifname "wan" masquerade': ("3,763", "3,746"),
 }
-VERDICT = "The new ruleset blocks 17 connections; 1 change was met by no packet: nothing is known of that."
-BLIND = ("Nothing was compared: no record reached a rule (2 records notip: not IPv4); 4 changes were met by no packet: "
-         "nothing is known of that.")
+VERDICT = "The new ruleset blocks 17 connections; 1 change was met by no packet; of all packets 2 classes differ."
+BLIND = ("Nothing was compared: no record reached a rule (2 records notip: not IPv4); 4 changes were met by no packet; "
+         "of all packets 2 classes differ.")
+# of all packets: at which stage, by which rule of OLD and of NEW, and which packets. Ping that moved up and comments
+# are no change; behind `ct state established,related` there are packets of all other states
+CLASSES = [
+    ["forward", 'accept iifname "lan" ip daddr 198.51.100.25 tcp dport 25 accept inet filter forward 5 line 24',
+     "drop policy of inet filter forward line 19",
+     'iifname "lan" ct state new,invalid,untracked ip daddr 198.51.100.25 tcp dport 25'],
+    ["forward", "drop policy of inet filter forward line 19",
+     'accept iifname "lan" tcp dport 8443 accept inet filter forward 4 line 23',
+     'iifname "lan" ct state new,invalid,untracked tcp dport 8443']]
 MARKS = {"removed": 1, "added": 1, "moved": 2, "reworded": 2}
 WAYS = ("headers 3,782, notip 2, prerouting 3,780, routing 3,780, input 12, rule 9, to the box 3, TTL 3,768, "
         "forward 3,768, rule 22, postrouting 3,746, left 3,746")
@@ -176,6 +185,9 @@ def try_change(browser: Browser, checks: Checks) -> None:
                 [('iifname "lan" tcp dport 8443 accept', "met by no packet; a packet could meet it")])
     checks.same("the rule that was moved", {one[2] for one in sides if one[1] == "moved"},
                 {'iifname "lan" icmp type echo-request accept'})
+    classes = browser.value("[...document.querySelectorAll('.classes .group')].map("
+                            "one => [...one.querySelectorAll('dd, li')].map(part => part.textContent))")
+    checks.same("classes of all packets", sorted(classes), sorted(CLASSES))
     noted = browser.value("[...document.querySelectorAll('.noted li')].map(one => one.textContent)")
     checks.same("changes that no packet met", noted,
                 ['new: inet filter forward 4  # iifname "lan" tcp dport 8443 accept (a packet could meet it)'])

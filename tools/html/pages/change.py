@@ -4,11 +4,14 @@ from __future__ import annotations
 from typing import TYPE_CHECKING, Iterable, Sequence
 
 from pages.both import Both, Text
+from pages.classes import classes_html
 from pages.model import hits_of
 from pages.texts import number, plural, shown
+from pages.told import told_html, told_text
 from pages.verdict import uncompared, verdict
 from toolbox.could_meet import could_meet
 from toolbox.differences import BLOCKED, OPENED, OTHERWISE, REWRITTEN, Groups, Sight, differing
+from toolbox.every_packet import Version, every_packet
 from toolbox.evidence import Evidence
 from toolbox.flows import Flows
 from toolbox.guard import USUAL, AllowList, Guard, Seen, unmet_of
@@ -22,7 +25,7 @@ if TYPE_CHECKING:
     from pages.model import RuleHits
     from toolbox.boxes import Box
     from toolbox.could_meet import CouldMeet
-    from toolbox.differences import Group, Told
+    from toolbox.differences import Group
 
 KINDS = (OPENED, BLOCKED, REWRITTEN, OTHERWISE)
 MOST_GROUPS, MOST_HOSTS, MOST_PORTS, MOST_RECORDS, MOST_NOTED = 60, 6, 8, 200, 20
@@ -37,9 +40,10 @@ MEANS = {
 
 class Change:
     """What differs between two rulesets over a capture: `groups`, `records` with the first records of each, `seen`
-    with what compare keeps, and the `verdict`. `before` and `after` are the replays, whose files are in the folder."""
+    with what compare keeps, and the `verdict`; `every` is what is known of all packets, for which so many seconds are
+    left. `before` and `after` are the replays, whose files are in the folder."""
 
-    def __init__(self, old: str, new: str, box: Box, capture: str, folder: str) -> None:
+    def __init__(self, old: str, new: str, box: Box, capture: str, folder: str, seconds: int) -> None:
         flows = Flows(capture, box)
         self.box, self.program = box, find_program()
         self.before, self.after = replays(self.program, old, new, box.path, flows, folder)
@@ -53,7 +57,8 @@ class Change:
         self.evidence, self.router = Evidence(*self.groups.sights), Router(flows, box, self.before)
         self.seen = self.as_seen(flows, sum(map(bool, what)))
         unsettled = [replay.rules for replay in (self.before, self.after) if not replay.settled]
-        self.verdict = verdict(self.seen, self.groups.flow_counts, unsettled)
+        self.every = every_packet(Version(old, old), Version(new, new), box.path, seconds)
+        self.verdict = verdict(self.seen, self.groups.flow_counts, unsettled, self.every)
 
     def as_seen(self, flows: Flows, differ: int) -> Seen:
         """What compare keeps of it."""
@@ -70,8 +75,9 @@ class Change:
 
     @property
     def is_clean(self) -> bool:
-        """Whether something differs, or all was compared."""
-        return bool(self.groups.all) or not self.seen.nothing and not self.seen.router
+        """Whether something differs, or all was compared, or the rulesets do the same with every packet."""
+        is_same = self.every is not None and self.every.is_same
+        return bool(self.groups.all) or is_same or not self.seen.nothing and not self.seen.router
 
     def of_kind(self, kind: str) -> list[Group]:
         chosen = [group for group in self.groups.all if group.kind == kind]
@@ -97,6 +103,7 @@ def html_of(change: Change, texts: tuple[Text, Text], old_name: str, new_name: s
     parts = [f'<p class="lead">From <code>{shown(old_name)}</code> to <code>{shown(new_name)}</code>, each replayed as '
              "its hosts would have sent: what follows on a dropped first packet isn't sent, and answers go to the "
              "ports that the ruleset chose.</p>"]
+    parts.append(classes_html(change.every))
     parts += [f'<p class="warning">{shown(line)}</p>' for line in change.doubts]
     if seen.nothing:
         parts.append(f'<p class="warning">Nothing was compared: {shown(seen.nothing)}.</p>')
@@ -163,25 +170,6 @@ def group_html(group: Group) -> str:
 def listed(texts: Iterable[str], most: int, many: int) -> str:
     shown_ones = [shown(text) for text, _ in zip(texts, range(most))]
     return ", ".join(shown_ones) + (f" and {number(many - most)} more" if many > most else "")
-
-
-def told_text(told: Told) -> str:
-    if told.chain is None:
-        return f"{told.verdict}: {told.text}"
-    if told.number is None:
-        return f"policy {told.verdict} of {told.chain}"
-    return f"{told.text}  ({told.chain} {told.number})"
-
-
-def told_html(told: Told) -> str:
-    """A decision and its rule's text."""
-    verdict_html = f'<span class="verdict {"drop" if told.verdict == "drop" else "go"}">{shown(told.verdict)}</span>'
-    if told.chain is None:
-        return f'<span class="verdict">{shown(told.verdict)}</span> {shown(told.text)}'
-    if told.number is None:
-        return f'{verdict_html} policy of <span class="chain">{shown(told.chain)}</span>'
-    return (f'{verdict_html} <code>{shown(told.text)}</code> '
-            f'<span class="chain">{shown(told.chain)} {told.number}</span>')
 
 
 def replays(program: str, old: str, new: str, box: str, flows: Flows, folder: str) -> tuple[Replay, Replay]:

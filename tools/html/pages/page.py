@@ -31,7 +31,8 @@ ASIDE = {UNSENT: "not sent", COPY: "outgoing copies"}
 @dataclass(frozen=True)
 class Options:
     """What a page is made of: paths of a ruleset, a box file and a capture, of the ruleset that is replaced and the map
-    of a fitted one, if there are any; how many records can be looked at, and how many seconds nftrun reach may take."""
+    of a fitted one, if there are any; how many records can be looked at, and how many seconds nftrun reach and nftrun
+    diff may take."""
 
     rules: str
     box: str
@@ -40,6 +41,7 @@ class Options:
     map: str | None
     records: int
     reach: int
+    diff: int
 
 
 class Page:
@@ -49,7 +51,7 @@ class Page:
         self.options = options
         self.box, self.ruleset = Box(options.box), read_ruleset(options.rules)
         origins = read_map(options)
-        self.change = (Change(options.against, options.rules, self.box, options.capture, folder)
+        self.change = (Change(options.against, options.rules, self.box, options.capture, folder, options.diff)
                        if options.against else None)
         self.model = Model(options.rules, self.box, options.capture, self.ruleset, options.records,
                            self.change.after if self.change else None)

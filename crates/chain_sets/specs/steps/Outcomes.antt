@@ -1,6 +1,7 @@
 -- Where packets are behind a rule.
 use Rattle.std.specs.Prelude.{Option, Some, None}
 use Rattle.std.specs.Option.{option_map}
+use Rattle.nft_tree.specs.declared.ruleset.RuleNo.{RuleNo}
 use Rattle.rule_meaning.specs.declared.event.HookVerdict.{HookVerdict}
 use Rattle.rule_meaning.specs.declared.event.HookVerdict.TheVariants as hooks
 use Rattle.rule_meaning.specs.declared.event.RuleVerdict.{RuleVerdict}
@@ -19,7 +20,11 @@ abbrev pub turn_at : End → Turn
 turn_at e = record { verdict = e.verdict; written = e.written }
 
 abbrev pub end_without : Written → ChainEnd
-end_without written = record { verdict = None; written = written }
+end_without written = record { verdict = None; written = written; by = None }
+
+-- at a verdict of the rule
+abbrev pub end_by : RuleNo → HookVerdict → Written → ChainEnd
+end_by rule verdict written = record { verdict = Some verdict; written = written; by = Some rule }
 
 -- behind a jump
 abbrev pub back_by : Option HookVerdict → ChainEnd → Exit
@@ -41,14 +46,14 @@ end_in (Ends e) = Some e
 abbrev pub case_if : {V W : Type 0} → (V → Option W) → Case V → Option (Case W)
 case_if part c = option_map (λ w. record { set = c.set; outcome = w }) (part c.outcome)
 
--- what becomes of packets behind a rule with this verdict
-abbrev pub course_by : Option RuleVerdict → Written → Course
-course_by None written = To (Next written)
-course_by (Some verdicts.Continue) written = To (Next written)
-course_by (Some verdicts.Accept) written = To (Ends (record { verdict = Some hooks.Accepted; written = written }))
-course_by (Some verdicts.Drop) written = To (Ends (record { verdict = Some hooks.Dropped; written = written }))
-course_by (Some (verdicts.Translate action)) written =
-    To (Ends (record { verdict = Some (hooks.Translated action); written = written }))
-course_by (Some verdicts.Return) written = To (Ends (record { verdict = None; written = written }))
-course_by (Some (verdicts.Jump chain)) written = Jump chain
-course_by (Some (verdicts.Goto chain)) written = Goto chain
+-- what becomes of packets behind the rule, with this verdict
+module _ (rule : RuleNo) where
+  abbrev pub course_by : Option RuleVerdict → Written → Course
+  course_by None written = To (Next written)
+  course_by (Some verdicts.Continue) written = To (Next written)
+  course_by (Some verdicts.Accept) written = To (Ends (end_by rule hooks.Accepted written))
+  course_by (Some verdicts.Drop) written = To (Ends (end_by rule hooks.Dropped written))
+  course_by (Some (verdicts.Translate action)) written = To (Ends (end_by rule (hooks.Translated action) written))
+  course_by (Some verdicts.Return) written = To (Ends (end_without written))
+  course_by (Some (verdicts.Jump chain)) written = Jump chain
+  course_by (Some (verdicts.Goto chain)) written = Goto chain

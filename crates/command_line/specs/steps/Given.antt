@@ -3,10 +3,10 @@ use Rattle.std.specs.Prelude.{◌≡◌, [], Bool, None, Option, Some, codes, fa
 use Rattle.std.specs.Str.{bytes_eq}
 use Rattle.clap.specs.Words.{Text, first_value, one_text}
 use Rattle.clap.specs.declared.parser.matches.Found.{Found}
-use Rattle.command_line.specs.CommandLine.{explaining_by, name_of_file}
+use Rattle.command_line.specs.CommandLine.{assume_name, explaining_by, name_of_file, report_name}
 use Rattle.command_line.specs.declared.tasks.Explaining.{Explaining}
 use Rattle.command_line.specs.declared.tasks.Task.{Task}
-use Rattle.command_line.specs.declared.tasks.Task.TheVariants.{Run, Check, Reach, Explain}
+use Rattle.command_line.specs.declared.tasks.Task.TheVariants.{Run, Check, Reach, Diff, Explain}
 
 -- the argument's value, empty where it has none
 abbrev pub value_at : Found → Text → Text
@@ -24,9 +24,9 @@ GivesExplaining f o = (always : Bool) × (never : Bool) × Sets f (codes "explai
 -- the subcommand of this name, with its matches, is this task
 abbrev pub GivesTask : Text → Found → Task → Type 0
 GivesTask name f (Run task) =
-    (bytes_eq name (codes "check") ≡ false) × (bytes_eq name (codes "reach") ≡ false) × (bytes_eq name (codes "explain") ≡ false)
-    × Sets f (codes "trace") task.trace × GivesExplaining f (Some task.explaining)
-    × (name_of_file task.report ≡ first_value f (codes "report"))
+    (bytes_eq name (codes "check") ≡ false) × (bytes_eq name (codes "reach") ≡ false) × (bytes_eq name (codes "diff") ≡ false)
+    × (bytes_eq name (codes "explain") ≡ false) × Sets f (codes "trace") task.trace × GivesExplaining f (Some task.explaining)
+    × (name_of_file task.report ≡ first_value f report_name)
     × (task.paths.rules.now ≡ value_at f (codes "rules")) × (task.paths.plant.now ≡ value_at f (codes "plant"))
     × (task.paths.input.now ≡ value_at f (codes "input")) × (task.paths.output.now ≡ value_at f (codes "output"))
 GivesTask name f (Check task) =
@@ -37,9 +37,14 @@ GivesTask name f (Reach task) =
     (bytes_eq name (codes "check") ≡ false) × (bytes_eq name (codes "reach") ≡ true) × Sets f (codes "sets") task.sets
     × GivesExplaining f (Some task.explaining)
     × (task.texts.rules.now ≡ value_at f (codes "rules")) × (task.texts.plant.now ≡ value_at f (codes "plant"))
+GivesTask name f (Diff task) =
+    (bytes_eq name (codes "check") ≡ false) × (bytes_eq name (codes "reach") ≡ false) × (bytes_eq name (codes "diff") ≡ true)
+    × GivesExplaining f (Some task.explaining) × (name_of_file task.assumed ≡ first_value f assume_name)
+    × (task.paths.old.now ≡ value_at f (codes "old")) × (task.paths.new.now ≡ value_at f (codes "new"))
+    × (task.paths.plant.now ≡ value_at f (codes "plant"))
 GivesTask name f (Explain code) =
-    (bytes_eq name (codes "check") ≡ false) × (bytes_eq name (codes "reach") ≡ false) × (bytes_eq name (codes "explain") ≡ true)
-    × (code.now ≡ value_at f (codes "code"))
+    (bytes_eq name (codes "check") ≡ false) × (bytes_eq name (codes "reach") ≡ false) × (bytes_eq name (codes "diff") ≡ false)
+    × (bytes_eq name (codes "explain") ≡ true) × (code.now ≡ value_at f (codes "code"))
 
 -- the subcommand isn't `explain`, and both flags are there
 abbrev pub Contradicts : Text → Found → Type 0

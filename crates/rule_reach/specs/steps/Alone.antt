@@ -1,5 +1,5 @@
 -- The packets that would meet rules as they came to base chains, as sets.
-use Rattle.std.specs.Prelude.{ℕ, List, [], Option, map, slice_get, unwrap_or}
+use Rattle.std.specs.Prelude.{List, [], Option, map, slice_get, unwrap_or}
 use Rattle.std.specs.Option.{option_map}
 use Rattle.nft_tree.specs.declared.ruleset.RuleNo.{RuleNo}
 use Rattle.nft_tree.specs.Tree.{Statement, TableTree}
@@ -10,7 +10,7 @@ use Rattle.packet_sets.specs.Sets.{DiagramsView, Means}
 use Rattle.fact_sets.specs.Boxes.{NOTHING}
 use Rattle.fact_sets.specs.Facts.{facts_of}
 use Rattle.rule_sets.specs.Interfaces.{interfaces_of}
-use Rattle.rule_reach.specs.Reach.{program_at}
+use Rattle.chain_ways.specs.BaseWays.{program_at}
 use Rattle.rule_reach.specs.Takers.{meets_alone, numbered}
 
 -- the statements of a rule of the table

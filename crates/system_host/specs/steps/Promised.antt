@@ -2,11 +2,12 @@
 use Rattle.std.specs.Prelude.{ℕ, List, Option, Some, None, Ok, Err}
 use Rattle.pcap_io.specs.declared.counted.Counted.{Counted}
 use Rattle.engine.specs.Judged.{Judged, JudgeRefuses}
-use Rattle.program.specs.Calls.{Call, run, judge, reach}
+use Rattle.program.specs.Calls.{Call, run, judge, reach, diff}
 use Rattle.program.specs.Outputs.{Device, UsesDevices, device}
 use Rattle.system_host.specs.declared.destination.Destination.{Destination}
 use Rattle.system_host.specs.declared.destination.Destination.TheVariants.{File, Nothing}
 use Rattle.system_host.specs.steps.Analyses.{Answers}
+use Rattle.system_host.specs.steps.Comparisons.{Compared}
 
 -- what a file holds; of what is lost nothing is known
 abbrev pub held_by : {F : Type 0} → (F → Option (List ℕ)) → Destination F → Option (List ℕ)
@@ -20,8 +21,8 @@ Reported contents (Some file) (Some file') Holds = Holds (device contents file) 
 Reported contents None None Holds = (report : Device) × (report' : Device) × Holds report report'
 Reported _ _ _ _ = ⊥
 
--- a run and a check do what the engine guarantees, and an analysis judges the texts as a check does; nothing
--- is known of other calls
+-- a run and a check do what the engine guarantees, and an analysis and a comparison judge the texts as a check
+-- does; nothing is known of other calls
 abbrev pub IsGuaranteed : {I O : Type 0} → (I → Option (List ℕ)) → (O → Option (List ℕ))
     → Call (Counted I) (Counted O) → Type 0
 IsGuaranteed remaining contents (run inputs before after answer) =
@@ -31,4 +32,5 @@ IsGuaranteed remaining contents (run inputs before after answer) =
 IsGuaranteed remaining contents (judge rules box (Ok counts)) = Judged rules box counts
 IsGuaranteed remaining contents (judge rules box (Err fault)) = JudgeRefuses rules box fault
 IsGuaranteed remaining contents (reach rules box sets answer) = Answers rules box answer
+IsGuaranteed remaining contents (diff inputs answer) = Compared inputs answer
 IsGuaranteed _ _ _ = Unit {0}

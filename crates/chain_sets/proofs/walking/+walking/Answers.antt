@@ -119,14 +119,14 @@ rule_exits-loop-turn-preserved t c =
 pub turn_exits-returns-in_ok-back-in-Jump-clause-value : goal.turn_exits-returns-in_ok-back-in-Jump-clause-value
 turn_exits-returns-in_ok-back-in-Jump-clause-value t c =
     leaves_by_jump (table_program c.args.table.setting.plant.now c.args.table.number c.args.table.setting.names.now) c.args.table.interfaces.now
-    c.args.levels c.in-Jump.chain c.args.diagrams.now c.walk_chain.new.diagrams c.args.turn c.in_ok-ends-in-Jump.ends.items
+    c.args.rule c.args.levels c.in-Jump.chain c.args.diagrams.now c.walk_chain.new.diagrams c.args.turn c.in_ok-ends-in-Jump.ends.items
     c.in_ok-back-in-Jump.field-0.items (sets_of c.args.visits.now) (sets_of c.walk_chain.new.visits) (sym c.in-Jump.is ∙ c.course_of.ensures)
     c.in_ok-ends-in-Jump.ensures.value (c.in_ok-back-in-Jump.ensures ∙ ap (map (with_outcome back_from)) c.deref.ensures.value)
 
 pub turn_exits-returns-in_ok-gone-in-Goto-clause-value : goal.turn_exits-returns-in_ok-gone-in-Goto-clause-value
 turn_exits-returns-in_ok-gone-in-Goto-clause-value t c =
     leaves_by_goto (table_program c.args.table.setting.plant.now c.args.table.number c.args.table.setting.names.now) c.args.table.interfaces.now
-    c.args.levels c.in-Goto.chain c.args.diagrams.now c.walk_chain-in-Goto.new.diagrams c.args.turn c.in_ok-ends-in-Goto.ends.items
+    c.args.rule c.args.levels c.in-Goto.chain c.args.diagrams.now c.walk_chain-in-Goto.new.diagrams c.args.turn c.in_ok-ends-in-Goto.ends.items
     c.in_ok-gone-in-Goto.field-0.items (sets_of c.args.visits.now) (sets_of c.walk_chain-in-Goto.new.visits) (sym c.in-Goto.is ∙ c.course_of.ensures)
     c.in_ok-ends-in-Goto.ensures.value (c.in_ok-gone-in-Goto.ensures ∙ ap (map (with_outcome Ends)) c.deref-in-Goto.ensures.value)
 

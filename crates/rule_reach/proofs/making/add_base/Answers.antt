@@ -1,6 +1,5 @@
 use Rattle.std.proofs.Common.{refl}
 use Rattle.fact_sets.proofs.SetLaws.{keeps_trans}
-use Rattle.rule_reach.specs.Sets.{AreSetsOf}
 use Rattle.rule_reach.specs.declared.sets.BaseSets.{BaseSets}
 use Rattle.coming_sets.specs.Bases.{base_chain}
 use Rattle.rule_reach.proofs.Made.{made, one_more}

@@ -1,4 +1,4 @@
-use Rattle.std.proofs.Common.{[], ap, drop, filter, length, map, refl, ◌+◌, ◌∙◌}
+use Rattle.std.proofs.Common.{[], drop, filter, length, refl, ◌+◌, ◌∙◌}
 use Rattle.std.proofs.lemmas.Bool.{false_from_ne_true, or_parts}
 use Rattle.std.proofs.lemmas.Option.{slice_get_read}
 use Rattle.nft_tree.specs.TableItems.{chains_of}
@@ -7,9 +7,8 @@ use Rattle.rule_values.specs.Faults.{has_wrong_value}
 use Rattle.rule_check.specs.declared.fault.CheckFault.TheVariants as faults
 use Rattle.rule_meaning.specs.Hooks.{base_chains_from, base_chains_of_tables}
 use Rattle.coming_sets.specs.Bases.{runs}
-use Rattle.rule_reach.specs.Reach.{rules_of, run_chains}
-use Rattle.rule_reach.specs.steps.Rules.{unreached}
-use Rattle.rule_reach.proofs.Bases.{done_more, done_none, none_at, reach_none, tables_left}
+use Rattle.rule_reach.specs.Reach.{run_chains}
+use Rattle.rule_reach.proofs.Bases.{done_more, done_none, none_at, tables_left}
 use Rattle.rule_reach.proofs.making.bases_by.Goals as goal
 
 pub loop-table-init : goal.loop-table-init

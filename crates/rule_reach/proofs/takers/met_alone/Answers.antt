@@ -1,12 +1,10 @@
-use Rattle.std.proofs.Common.{map, subst}
-use Rattle.std.specs.List.{list_any}
+use Rattle.std.proofs.Common.{map}
 use Rattle.std.proofs.lemmas.Result.{IfOk-weaker}
 use Rattle.nft_tree.specs.TreeViews.{statement}
-use Rattle.packet_sets.specs.Sets.{Means}
 use Rattle.rule_meaning.specs.Runs.{table_program}
 use Rattle.fact_sets.specs.Boxes.{NOTHING}
 use Rattle.fact_sets.proofs.SetLaws.{keeps_trans}
-use Rattle.rule_sets.specs.Ends.{outcomes_for, rule_end}
+use Rattle.rule_sets.specs.Ends.{rule_end}
 use Rattle.rule_reach.proofs.Alone.{met_means}
 use Rattle.rule_reach.proofs.takers.met_alone.Goals as goal
 

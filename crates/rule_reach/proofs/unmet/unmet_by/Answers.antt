@@ -1,4 +1,4 @@
-use Rattle.std.proofs.Common.{All, filter, map, subst, sym, take, ◌≡◌}
+use Rattle.std.proofs.Common.{All, subst, sym}
 use Rattle.std.proofs.lemmas.List.Elements.{All-push}
 use Rattle.fact_sets.proofs.SetLaws.{keeps_trans}
 use Rattle.rule_reach.specs.Reach.{run_chains}

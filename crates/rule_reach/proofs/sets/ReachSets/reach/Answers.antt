@@ -1,4 +1,4 @@
-use Rattle.std.proofs.Common.{ap, arith, length, map, refl, subst, sym, take, ◌∙◌, ◌≡◌, ◌≤◌}
+use Rattle.std.proofs.Common.{ap, arith, length, map, refl, subst, take, ◌∙◌, ◌≤◌}
 use Rattle.std.proofs.lemmas.List.{take_all}
 use Rattle.std.proofs.lemmas.Option.{slice_get_read}
 use Rattle.std.proofs.lemmas.Slice.Zip.{AllZip-long}

@@ -1,4 +1,4 @@
-use Rattle.std.proofs.Common.{arith, length, map, refl, subst, sym, ◌<◌, ◌≡◌}
+use Rattle.std.proofs.Common.{arith, length, map, refl, subst, sym, ◌<◌}
 use Rattle.std.proofs.lemmas.Bool.{ltb-true}
 use Rattle.std.proofs.lemmas.Option.{slice_get_read}
 use Rattle.std.proofs.lemmas.Result.{on_ok_weaker}

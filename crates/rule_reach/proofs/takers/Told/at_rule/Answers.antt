@@ -1,4 +1,4 @@
-use Rattle.std.proofs.Common.{length, refl, subst, take, ◌||◌, ◌≡◌, ◌≤◌, arith}
+use Rattle.std.proofs.Common.{length, refl, subst, take, ◌≤◌, arith}
 use Rattle.std.proofs.lemmas.List.{take_all}
 use Rattle.std.proofs.lemmas.Option.{slice_get_read}
 use Rattle.std.proofs.lemmas.Slice.Zip.{AllZip-long}

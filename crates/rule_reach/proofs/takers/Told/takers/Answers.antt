@@ -1,5 +1,4 @@
-use Rattle.std.proofs.Common.{Bool, arith, false, max, not, refl, subst, sym, true, ◌+◌, ◌≡◌, ◌≤◌}
-use Rattle.packet_sets.specs.Sets.{Keeps}
+use Rattle.std.proofs.Common.{Bool, arith, false, not, refl, subst, sym, true, ◌≡◌}
 use Rattle.fact_sets.proofs.SetLaws.{keeps_trans}
 use Rattle.rule_reach.specs.Reach.{run_chains}
 use Rattle.rule_reach.specs.Takers.{Whether, comes_for, takes}

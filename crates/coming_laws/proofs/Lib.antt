@@ -1,0 +1,11 @@
+mod Each
+mod Fits
+mod Bytes
+mod Statements
+mod Running
+mod Translations
+mod Boxes
+mod Standing
+mod Histories
+mod Arriving
+mod Spelling

@@ -1,0 +1,21 @@
+use Rattle.std.specs.Prelude.{◌&&◌}
+use Rattle.coming_sets.specs.Coming.{has_output, has_state_in, hook_of, is_packet}
+use Rattle.fact_sets.specs.Effects.{seen}
+use Rattle.fact_sets.proofs.SetLaws.{keeps_trans, keeps_twice}
+use Rattle.coming_sets.proofs.Matching.{and_after}
+use Rattle.coming_sets.proofs.stages.coming_to.Goals as goal
+
+pub returns-in_err-places-clause-keeps : goal.returns-in_err-places-clause-keeps
+returns-in_err-places-clause-keeps c =
+    keeps_trans c.args.diagrams.now c.packets.new.diagrams c.places.new.diagrams c.packets.ensures.keeps c.places.ensures.keeps
+
+pub returns-clause-keeps : goal.returns-clause-keeps
+returns-clause-keeps c = keeps_twice c.args.diagrams.now c.packets.new.diagrams c.places.new.diagrams c.and.new.self c.packets.ensures.keeps
+    c.places.ensures.keeps c.and.ensures.keeps
+
+pub returns-clause-value : goal.returns-clause-value
+returns-clause-value c =
+    and_after c.packets.new.diagrams c.places.new.diagrams c.and.new.self c.in_ok-packets.packets c.in_ok-places.places
+    (λ f. is_packet (seen c.args.reader f))
+    (λ f. has_output (hook_of c.args.stage) (seen c.args.reader f) && has_state_in c.args.stage (seen c.args.reader f)) c.and.result c.places.ensures.keeps
+    c.in_ok-packets.ensures.value c.in_ok-places.ensures.value c.and.ensures.value

@@ -1,0 +1,4 @@
+pub mod AcceptedSets
+pub mod AllChains
+pub mod InStage
+pub mod Parts
