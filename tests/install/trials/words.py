@@ -77,6 +77,10 @@ def test_options(trial: Trial, it: Installed) -> dict[str, set[str]]:
         for name in sorted(found[word] & set(named)):
             right = takes_value(it.front, word, name) == bool(named[name].takes)
             trial.expect(right, f"nftrun {word} --help says otherwise what {name} takes")
+    for word, options in OF_COMMANDS.items():
+        for call in ([word, "--help"], ["help", word]):
+            told_of = set(OPTION.findall(run([it.front, *call]).out))
+            trial.expect(options <= told_of, f"nftrun {' '.join(call)} doesn't tell of {', '.join(sorted(options))}")
     return found
 
 
