@@ -3,5 +3,7 @@ pub mod Beginning
 pub mod Cases
 pub mod Exits
 pub mod Levels
+pub mod Nesting
+pub mod Packets
 pub mod Passing
 pub mod TableRules

@@ -5,3 +5,4 @@ pub mod Outcomes
 pub mod Looks
 pub mod Turns
 pub mod Walking
+pub mod Nesting

@@ -4,7 +4,7 @@ ghost use Rattle.std.specs.Option.{option_map};
 ghost use Rattle.packet_sets.specs.Sets.{IsSet, Keeps};
 ghost use Rattle.packet_sets.specs.declared.fault.SetError.TheVariants.{TooLarge};
 ghost use Rattle.fact_sets.specs.Effects.{AreCases};
-ghost use Rattle.chain_sets.specs.steps.Merging.{Adds};
+ghost use Rattle.chain_sets.specs.steps.Merging.{Adds, HavePackets};
 
 use fact_sets::Case;
 use packet_sets::{Diagrams, SetError};
@@ -76,6 +76,8 @@ pub(crate) fn add_case<V: Merge>(
     ensures keeps { Keeps diagrams.old diagrams.new }
     ensures adds { OnOk result
         (Adds diagrams.old diagrams.new (case ∷ []) cases.old.items cases.new.items) }
+    ensures packets { OnOk result (HavePackets diagrams.old cases.old.items
+        → HavePackets diagrams.new cases.new.items) }
     ensures too_large { IfErr result (λ e. e ≡ TooLarge
         → diagrams.new.limit ≤ length diagrams.new.nodes) }
 {
@@ -103,6 +105,8 @@ pub(crate) fn add_cases<V: Merge>(
     ensures keeps { Keeps diagrams.old diagrams.new }
     ensures adds { OnOk result
         (Adds diagrams.old diagrams.new more.now cases.old.items cases.new.items) }
+    ensures packets { OnOk result (HavePackets diagrams.old cases.old.items
+        → HavePackets diagrams.new cases.new.items) }
     ensures too_large { IfErr result (λ e. e ≡ TooLarge
         → diagrams.new.limit ≤ length diagrams.new.nodes) }
 {

@@ -11,6 +11,7 @@ ghost use Rattle.fact_sets.specs.Effects.{AreCases};
 ghost use Rattle.packet_sets.specs.declared.fault.SetError.TheVariants.{TooLarge};
 ghost use Rattle.chain_sets.specs.RuleSets.{sets_of};
 ghost use Rattle.chain_sets.specs.steps.Looks.{AreRuleSets};
+ghost use Rattle.chain_sets.specs.steps.Merging.{HavePackets};
 ghost use Rattle.chain_sets.specs.steps.Turns.{GoThrough};
 
 use crate::merging::add_cases;
@@ -87,6 +88,7 @@ pub(crate) fn rule_turns(
         rule.table table.entry.setting.names.now) table.entry.interfaces.now rule.chain rule.rule
         (map statement stmts.now) diagrams.old diagrams.new states.now turns.items
         (sets_of visits.old) (sets_of visits.new)) }
+    ensures packets { IfOk result (λ turns. HavePackets diagrams.new turns.items) }
     ensures too_large { IfErr result (λ e. e ≡ TooLarge
         → diagrams.new.limit ≤ length diagrams.new.nodes) }
 {

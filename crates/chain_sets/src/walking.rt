@@ -8,9 +8,11 @@ ghost use Rattle.rule_values.specs.Faults.{item_out_of_range, statement_out_of_r
 ghost use Rattle.rule_meaning.specs.Runs.{table_program};
 ghost use Rattle.lowering.specs.Lowered.{Extends, HasDeclared};
 ghost use Rattle.fact_sets.specs.Effects.{AreCases};
-ghost use Rattle.chain_sets.specs.declared.fault.WalkError.TheVariants.{TooLarge};
+ghost use Rattle.chain_sets.specs.declared.fault.WalkError.TheVariants.{TooDeep, TooLarge};
+ghost use Rattle.chain_ways.specs.Nesting.{NestsOver};
 ghost use Rattle.chain_sets.specs.RuleSets.{sets_of};
 ghost use Rattle.chain_sets.specs.steps.Looks.{AreRuleSets};
+ghost use Rattle.chain_sets.specs.steps.Nesting.{RuleNests, SomeTurnNests, VerdictNests};
 ghost use Rattle.chain_sets.specs.steps.Walking.{Leave, Pass, Walk};
 
 use crate::fault::WalkError;
@@ -51,6 +53,9 @@ fn turn_exits(
         diagrams.old diagrams.new (turn ∷ []) exits.items (sets_of visits.old) (sets_of visits.new)) }
     ensures too_large { IfErr result (λ e. e ≡ TooLarge
         → diagrams.new.limit ≤ length diagrams.new.nodes) }
+    ensures too_deep { IfErr result (λ e. e ≡ TooDeep → VerdictNests (table_program table.entry.setting.plant.now
+        table.entry.number table.entry.setting.names.now)
+        levels turn.outcome.verdict) }
 {
     let state = Case {
         set: turn.set,
@@ -111,6 +116,9 @@ fn rule_exits(
         diagrams.old diagrams.new turns.now exits.items (sets_of visits.old) (sets_of visits.new)) }
     ensures too_large { IfErr result (λ e. e ≡ TooLarge
         → diagrams.new.limit ≤ length diagrams.new.nodes) }
+    ensures too_deep { IfErr result (λ e. e ≡ TooDeep → SomeTurnNests (table_program table.entry.setting.plant.now
+        table.entry.number table.entry.setting.names.now)
+        levels turns.now) }
 {
     let mut exits = Vec::new(alloc);
     for turn in turns {
@@ -150,6 +158,9 @@ fn pass_rule(
         diagrams.old diagrams.new states.now exits.items (sets_of visits.old) (sets_of visits.new)) }
     ensures too_large { IfErr result (λ e. e ≡ TooLarge
         → diagrams.new.limit ≤ length diagrams.new.nodes) }
+    ensures too_deep { IfErr result (λ e. e ≡ TooDeep → RuleNests (table_program table.entry.setting.plant.now
+        table.entry.number table.entry.setting.names.now)
+        levels rule.chain rule.rule (map statement stmts.now)) }
 {
     let turns = rule_turns(alloc, diagrams, lookups, table, rule, stmts, states, visits)?;
     rule_exits(
@@ -194,6 +205,9 @@ pub(crate) fn walk_chain(
         diagrams.old diagrams.new states.now ends.items (sets_of visits.old) (sets_of visits.new)) }
     ensures too_large { IfErr result (λ e. e ≡ TooLarge
         → diagrams.new.limit ≤ length diagrams.new.nodes) }
+    ensures too_deep { IfErr result (λ e. e ≡ TooDeep → NestsOver (table_program table.entry.setting.plant.now
+        table.entry.number table.entry.setting.names.now)
+        levels chain) }
 {
     let Some(deeper) = levels.checked_sub(1) else {
         return Err(WalkError::TooDeep);

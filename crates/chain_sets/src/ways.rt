@@ -6,8 +6,9 @@ ghost use Rattle.rule_types.specs.Types.{table_mismatches};
 ghost use Rattle.rule_values.specs.Faults.{item_out_of_range};
 ghost use Rattle.rule_meaning.specs.Runs.{table_program};
 ghost use Rattle.lowering.specs.Lowered.{Extends, HasDeclared};
+ghost use Rattle.chain_ways.specs.Nesting.{NestsOver};
 ghost use Rattle.chain_ways.specs.Ways.{way};
-ghost use Rattle.chain_sets.specs.declared.fault.WalkError.TheVariants.{TooLarge};
+ghost use Rattle.chain_sets.specs.declared.fault.WalkError.TheVariants.{TooDeep, TooLarge};
 ghost use Rattle.fact_sets.specs.Effects.{AreCases};
 ghost use Rattle.chain_sets.specs.ChainSets.{AreOnWays, AreOnWaysFrom};
 ghost use Rattle.chain_sets.specs.RuleSets.{sets_of};
@@ -62,6 +63,9 @@ pub fn chain_sets(
         levels chain.chain) diagrams.old diagrams.new set (sets_of sets.rules) sets.ends.items) }
     ensures too_large { IfErr result (λ e. e ≡ TooLarge
         → diagrams.new.limit ≤ length diagrams.new.nodes) }
+    ensures too_deep { IfErr result (λ e. e ≡ TooDeep → NestsOver
+        (table_program setting.entry.plant.now chain.table setting.entry.names.now)
+        LEVELS chain.chain) }
 {
     let state = Case {
         set,
@@ -106,6 +110,9 @@ pub fn chain_sets_from(
         sets.ends.items) }
     ensures too_large { IfErr result (λ e. e ≡ TooLarge
         → diagrams.new.limit ≤ length diagrams.new.nodes) }
+    ensures too_deep { IfErr result (λ e. e ≡ TooDeep → NestsOver
+        (table_program setting.entry.plant.now chain.table setting.entry.names.now)
+        LEVELS chain.chain) }
 {
     let table = TableSetting {
         number: chain.table,

@@ -4,5 +4,6 @@ mod Costs
 mod Events
 mod Fitting
 mod Lists
+pub mod Nesting
 pub mod Stages
 mod Visits

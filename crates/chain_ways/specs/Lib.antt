@@ -1,3 +1,4 @@
 pub mod Ways
 pub mod BaseWays
 pub mod Laws
+pub mod Nesting

@@ -9,3 +9,4 @@ pub mod Earlier
 pub mod Alone
 pub mod Taking
 pub mod NotMet
+pub mod Nesting

@@ -1,4 +1,5 @@
 pub mod Reach
 pub mod Sets
 pub mod Takers
+pub mod Nesting
 pub mod steps

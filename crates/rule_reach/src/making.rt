@@ -10,9 +10,12 @@ ghost use Rattle.rule_check.specs.WellFormed.{WellFormed};
 ghost use Rattle.rule_meaning.specs.Hooks.{BaseChain, base_chain_of, base_chains_from};
 ghost use Rattle.lowering.specs.Lowered.{Extends, HasDeclared};
 ghost use Rattle.rule_sets.specs.Interfaces.{interfaces_of};
-ghost use Rattle.rule_reach.specs.declared.answers.ReachError.TheVariants.{TooLarge};
+ghost use Rattle.chain_ways.specs.Nesting.{SomeNestsOver};
+ghost use Rattle.chain_sets.specs.declared.ways.TheConstants.{LEVELS};
+ghost use Rattle.rule_reach.specs.declared.answers.ReachError.TheVariants.{TooDeep, TooLarge};
 ghost use Rattle.coming_sets.specs.Bases.{runs};
 ghost use Rattle.rule_reach.specs.Reach.{run_chains};
+ghost use Rattle.rule_reach.specs.Nesting.{NestsTooDeep};
 ghost use Rattle.rule_reach.specs.Sets.{AreReachSets, AreSetsOf};
 ghost use Rattle.coming_sets.specs.Bases.{base_chain};
 
@@ -60,6 +63,9 @@ fn add_base(
     ensures limit { diagrams.new.limit ≡ diagrams.old.limit }
     ensures too_large { IfErr result (λ e. e ≡ TooLarge
         → diagrams.new.limit ≤ length diagrams.new.nodes) }
+    ensures too_deep { IfErr result (λ e. e ≡ TooDeep → (tables : List TableTree)
+        → slice_get tables base.entry.number.table ≡ Some place.entry.setting.names.now
+        → SomeNestsOver LEVELS place.entry.setting.plant.now tables (base_chain base.entry ∷ [])) }
 {
     let interfaces = place.interfaces;
     let reader = Reader {
@@ -110,6 +116,10 @@ fn add_chain(
     ensures limit { diagrams.new.limit ≡ diagrams.old.limit }
     ensures too_large { IfErr result (λ e. e ≡ TooLarge
         → diagrams.new.limit ≤ length diagrams.new.nodes) }
+    ensures too_deep { IfErr result (λ e. e ≡ TooDeep → (tables : List TableTree)
+        → slice_get tables number.table ≡ Some place.entry.setting.names.now
+        → SomeNestsOver LEVELS place.entry.setting.plant.now tables
+        (filter runs (base_chain_of number.table number.chain (chain_tree chain.now).head))) }
 {
     let Some(head) = &chain.head else {
         return Ok(());
@@ -141,6 +151,10 @@ fn add_table(
     ensures limit { diagrams.new.limit ≡ diagrams.old.limit }
     ensures too_large { IfErr result (λ e. e ≡ TooLarge
         → diagrams.new.limit ≤ length diagrams.new.nodes) }
+    ensures too_deep { IfErr result (λ e. e ≡ TooDeep → (tables : List TableTree)
+        → slice_get tables table ≡ Some place.entry.setting.names.now
+        → SomeNestsOver LEVELS place.entry.setting.plant.now tables
+        (filter runs (base_chains_from table 0 (chains_of place.entry.setting.names.now)))) }
 {
     let names = place.setting.names;
     let mut lookups = declared(alloc, place.setting.plant, names)?;
@@ -166,6 +180,8 @@ fn bases_by(
     ensures limit { diagrams.new.limit ≡ diagrams.old.limit }
     ensures too_large { IfErr result (λ e. e ≡ TooLarge
         → diagrams.new.limit ≤ length diagrams.new.nodes) }
+    ensures too_deep { IfErr result (λ e. e ≡ TooDeep
+        → NestsTooDeep checked.now.plant checked.now.rules) }
 {
     let plant = checked.plant();
     let tables = checked.names(alloc)?;
@@ -193,6 +209,8 @@ fn bases_by(
 pub fn reach_sets(alloc: Global, checked: &Checked, limit: u32) -> Result<ReachSets, ReachError>
     ensures sets { IfOk result (AreReachSets checked.now.plant checked.now.rules) }
     ensures limit { IfOk result (λ sets. sets.diagrams.limit ≡ limit) }
+    ensures too_deep { IfErr result (λ e. e ≡ TooDeep
+        → NestsTooDeep checked.now.plant checked.now.rules) }
 {
     checked.known_bounds();
     let mut diagrams = Diagrams::new(alloc, limit)?;

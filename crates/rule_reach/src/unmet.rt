@@ -1,9 +1,9 @@
 //! Why rules of a ruleset aren't met.
-ghost use Rattle.std.specs.Prelude.{◌≡◌, ◌≤◌, length, map, filter, All, IfOk, IfErr};
+ghost use Rattle.std.specs.Prelude.{◌≡◌, ◌≢◌, ◌≤◌, length, map, filter, All, IfOk, IfErr};
 ghost use Rattle.std.specs.List.{AllZip};
 ghost use Rattle.lowering.specs.Lowered.{HasDeclared};
 ghost use Rattle.rule_check.specs.WellFormed.{WellFormed};
-ghost use Rattle.rule_reach.specs.declared.answers.ReachError.TheVariants.{TooLarge};
+ghost use Rattle.rule_reach.specs.declared.answers.ReachError.TheVariants.{TooDeep, TooLarge};
 ghost use Rattle.rule_reach.specs.Reach.{run_chains};
 ghost use Rattle.packet_sets.specs.Sets.{Keeps};
 ghost use Rattle.rule_reach.specs.Sets.{AreReachSets, AreSetsOf};
@@ -55,6 +55,7 @@ fn unmet_by(
         (run_chains checked.now.rules)) unmet.items) }
     ensures too_large { IfErr result (λ e. e ≡ TooLarge
         → diagrams.new.limit ≤ length diagrams.new.nodes) }
+    ensures never_deep { IfErr result (λ e. e ≢ TooDeep) }
 {
     let plant = checked.plant();
     let tables = checked.names(alloc)?;
@@ -99,6 +100,7 @@ impl ReachSets {
             (run_chains checked.now.rules)) unmet.items) }
         ensures too_large { IfErr result (λ e. e ≡ TooLarge
             → self.new.diagrams.limit ≤ length self.new.diagrams.nodes) }
+        ensures never_deep { IfErr result (λ e. e ≢ TooDeep) }
     {
         checked.known_bounds();
         unmet_by(alloc, &mut self.diagrams, &self.bases, checked, reach)

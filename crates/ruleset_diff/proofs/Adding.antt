@@ -10,7 +10,7 @@ use Rattle.rule_meaning.specs.declared.event.HookVerdict.{HookVerdict}
 use Rattle.rule_meaning.specs.declared.event.HookVerdict.TheVariants.{Dropped}
 use Rattle.fact_sets.specs.Facts.{CT_MARK, MARK, mark_number, facts_of}
 use Rattle.fact_sets.specs.declared.written.Written.{Written}
-use Rattle.chain_sets.specs.declared.fault.WalkError.{WalkError}
+use Rattle.packet_sets.specs.declared.fault.SetError.{SetError}
 use Rattle.stage_sets.specs.declared.outcome.StageOutcome.{StageOutcome}
 use Rattle.same_results.specs.Same.{GoesOn}
 use Rattle.fact_sets.specs.declared.written.MarkSource.{MarkSource}
@@ -236,7 +236,7 @@ pub marks_swap : (x y : MarkSource) (p : ℕ → Bool) → marks_differ x y p �
 marks_swap x y p = ap not (eqb-swap (mark_number x p) (mark_number y p))
 
 -- of a call that may fail
-pub swapped : (d e : DiagramsView) (set : PacketSet) (a b : List PacketSet) (x y : MarkSource) (r : Result (Unit {0}) WalkError)
+pub swapped : (d e : DiagramsView) (set : PacketSet) (a b : List PacketSet) (x y : MarkSource) (r : Result (Unit {0}) SetError)
     → OnOk r (AddsPieces d e a b (λ p. holds d set p && marks_differ x y p)) → OnOk r (AddsPieces d e a b (λ p. holds d set p && marks_differ y x p))
 swapped d e set a b x y (Ok u) adds = added_as d e a b _ _ adds (λ p. ap (λ v. holds d set p && v) (marks_swap x y p))
 swapped d e set a b x y (Err fault) adds = adds

@@ -1,13 +1,16 @@
 //! The differences of two rulesets.
-ghost use Rattle.std.specs.Prelude.{◌≡◌, ◌&&◌, IfOk, IfSome, OnOk};
+ghost use Rattle.std.specs.Prelude.{◌≡◌, ◌&&◌, IfErr, IfOk, IfSome, OnOk};
 ghost use Rattle.packet_sets.specs.Sets.{Keeps, Means};
 ghost use Rattle.rule_check.specs.WellFormed.{WellFormed};
 ghost use Rattle.fact_sets.specs.Boxes.{NOTHING};
 ghost use Rattle.fact_sets.specs.Facts.{facts_of};
 ghost use Rattle.rule_sets.specs.Interfaces.{interfaces_of};
 ghost use Rattle.chain_ways.specs.BaseWays.{StageRunsAreWays};
+ghost use Rattle.chain_sets.specs.declared.fault.WalkError.TheVariants.{TooDeep};
+ghost use Rattle.chain_sets.specs.declared.ways.TheConstants.{LEVELS};
 ghost use Rattle.coming_sets.specs.Coming.{can_come_to};
 ghost use Rattle.ruleset_diff.specs.Differences.{AreDifferences, assumption};
+ghost use Rattle.ruleset_diff.specs.Nesting.{AssumedNestsOver, OneNestsOver};
 ghost use Rattle.ruleset_diff.specs.steps.Stages.{AddsStage};
 
 use crate::differences::{Difference, RulesetDiff};
@@ -49,6 +52,7 @@ fn coming_within(
     ensures value { IfOk result (λ coming. Means diagrams.new coming
         (λ packet. can_come_to stage (facts_of interfaces.now NOTHING packet)
         && assumption assumed.entry (facts_of interfaces.now NOTHING packet))) }
+    ensures too_deep { IfErr result (λ e. e ≡ TooDeep → AssumedNestsOver LEVELS assumed.entry) }
 {
     let reader = Reader {
         interfaces,
@@ -80,6 +84,8 @@ fn add_stage(
     ensures keeps { Keeps diagrams.old diagrams.new }
     ensures adds { OnOk result (AddsStage old.now.plant old.now.rules new.now.rules
         (assumption assumed.entry) diagrams.new stage differences.old.items differences.new.items) }
+    ensures too_deep { IfErr result (λ e. e ≡ TooDeep
+        → OneNestsOver LEVELS old.now.plant old.now.rules new.now.rules assumed.entry) }
 {
     facts_have_bits();
     stage_runs_are_ways();
@@ -112,6 +118,8 @@ pub fn ruleset_diff(
     ensures differences { IfOk result (λ diff. AreDifferences old.now.plant old.now.rules new.now.rules
         (assumption assumed.entry) diff.diagrams diff.differences.items) }
     ensures limit { IfOk result (λ diff. diff.diagrams.limit ≡ limit) }
+    ensures too_deep { IfErr result (λ e. e ≡ TooDeep
+        → OneNestsOver LEVELS old.now.plant old.now.rules new.now.rules assumed.entry) }
 {
     old.known_bounds();
     new.known_bounds();

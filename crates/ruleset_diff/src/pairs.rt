@@ -11,9 +11,8 @@ ghost use Rattle.ruleset_diff.specs.steps.Pairs.{AddsMet, AddsSome, AreCompared,
 use crate::differences::Difference;
 use crate::hints::Hints;
 use crate::pieces::pieces;
-use chain_sets::WalkError;
 use fact_sets::Case;
-use packet_sets::{Diagrams, PacketSet};
+use packet_sets::{Diagrams, PacketSet, SetError};
 use rule_meaning::HookStage;
 use stage_sets::StageOutcome;
 use std::alloc::Global;
@@ -26,7 +25,7 @@ fn add_one(
     new: StageOutcome,
     set: PacketSet,
     differences: &mut Vec<Difference>,
-) -> Result<(), WalkError>
+) -> Result<(), SetError>
     requires { IsSet diagrams.now set }
     ensures { OnOk result ((sets : List PacketSet) (before : List Difference)
         → AddsSome diagrams.now stage old new sets before differences.old.items
@@ -52,7 +51,7 @@ fn add_some(
     new: StageOutcome,
     sets: &[PacketSet],
     differences: &mut Vec<Difference>,
-) -> Result<(), WalkError>
+) -> Result<(), SetError>
     requires { All (IsSet diagrams.now) sets.now }
     ensures { OnOk result (AddsSome diagrams.now stage old new sets.now differences.old.items
         differences.new.items) }
@@ -72,7 +71,7 @@ fn meet(
     left: Case<StageOutcome>,
     new: Case<StageOutcome>,
     differences: &mut Vec<Difference>,
-) -> Result<PacketSet, WalkError>
+) -> Result<PacketSet, SetError>
     requires left { IsSet diagrams.old left.set }
     requires new { IsSet diagrams.old new.set }
     ensures keeps { Keeps diagrams.old diagrams.new }
@@ -92,7 +91,7 @@ fn meet(
         &sets,
         differences,
     )?;
-    Ok(diagrams.without(left.set, new.set)?)
+    diagrams.without(left.set, new.set)
 }
 
 /// What is left of a case of the old ruleset after the case of the new one with this index, if there is
@@ -105,7 +104,7 @@ fn try_at(
     new: &[Case<StageOutcome>],
     index: usize,
     differences: &mut Vec<Difference>,
-) -> Result<PacketSet, WalkError>
+) -> Result<PacketSet, SetError>
     requires left { IsSet diagrams.old left.set }
     requires new { AreCases diagrams.old new.now }
     ensures keeps { Keeps diagrams.old diagrams.new }
@@ -131,7 +130,7 @@ fn try_hints(
     new: &[Case<StageOutcome>],
     hints: &mut Hints,
     differences: &mut Vec<Difference>,
-) -> Result<PacketSet, WalkError>
+) -> Result<PacketSet, SetError>
     requires old { IsSet diagrams.old old.set }
     requires new { AreCases diagrams.old new.now }
     ensures keeps { Keeps diagrams.old diagrams.new }
@@ -161,7 +160,7 @@ fn try_all(
     new: &[Case<StageOutcome>],
     hints: &mut Hints,
     differences: &mut Vec<Difference>,
-) -> Result<(), WalkError>
+) -> Result<(), SetError>
     requires left { IsSet diagrams.old left.set }
     requires new { AreCases diagrams.old new.now }
     ensures keeps { Keeps diagrams.old diagrams.new }
@@ -193,7 +192,7 @@ fn compare(
     new: &[Case<StageOutcome>],
     hints: &mut Hints,
     differences: &mut Vec<Difference>,
-) -> Result<(), WalkError>
+) -> Result<(), SetError>
     requires old { IsSet diagrams.old old.set }
     requires new { AreCases diagrams.old new.now }
     ensures keeps { Keeps diagrams.old diagrams.new }
@@ -215,7 +214,7 @@ pub(crate) fn compare_all(
     old: &[Case<StageOutcome>],
     new: &[Case<StageOutcome>],
     differences: &mut Vec<Difference>,
-) -> Result<(), WalkError>
+) -> Result<(), SetError>
     requires old { AreCases diagrams.old old.now }
     requires new { AreCases diagrams.old new.now }
     ensures keeps { Keeps diagrams.old diagrams.new }

@@ -7,9 +7,8 @@ ghost use Rattle.ruleset_diff.specs.steps.Pieces.{AddsPieces, ArePieces, has_con
 ghost use Rattle.ruleset_diff.specs.steps.Pieces.{connection_mark_bit, mark_bit};
 ghost use Rattle.fact_sets.specs.declared.written.MarkSource.{MarkSource};
 
-use chain_sets::WalkError;
 use fact_sets::{FactField, MarkSource, Written};
-use packet_sets::{Diagrams, PacketSet};
+use packet_sets::{Diagrams, PacketSet, SetError};
 use rule_meaning::HookVerdict;
 use stage_sets::StageOutcome;
 use std::alloc::Global;
@@ -51,7 +50,7 @@ fn add_without(
     set: PacketSet,
     other: PacketSet,
     pieces: &mut Vec<PacketSet>,
-) -> Result<(), WalkError>
+) -> Result<(), SetError>
     requires set { IsSet diagrams.old set }
     requires other { IsSet diagrams.old other }
     ensures keeps { Keeps diagrams.old diagrams.new }
@@ -71,7 +70,7 @@ fn add_unlike_bit(
     set: PacketSet,
     place: u32,
     pieces: &mut Vec<PacketSet>,
-) -> Result<(), WalkError>
+) -> Result<(), SetError>
     requires set { IsSet diagrams.old set }
     requires place { place < 32 }
     ensures keeps { Keeps diagrams.old diagrams.new }
@@ -94,7 +93,7 @@ fn add_unlike_marks(
     diagrams: &mut Diagrams,
     set: PacketSet,
     pieces: &mut Vec<PacketSet>,
-) -> Result<(), WalkError>
+) -> Result<(), SetError>
     requires set { IsSet diagrams.old set }
     ensures keeps { Keeps diagrams.old diagrams.new }
     ensures adds { OnOk result (AddsPieces diagrams.old diagrams.new pieces.old.items
@@ -113,7 +112,7 @@ fn add_other_marks(
     set: PacketSet,
     number: u32,
     pieces: &mut Vec<PacketSet>,
-) -> Result<(), WalkError>
+) -> Result<(), SetError>
     requires set { IsSet diagrams.old set }
     ensures keeps { Keeps diagrams.old diagrams.new }
     ensures adds { OnOk result (AddsPieces diagrams.old diagrams.new pieces.old.items
@@ -131,7 +130,7 @@ fn add_other_connection_marks(
     set: PacketSet,
     number: u32,
     pieces: &mut Vec<PacketSet>,
-) -> Result<(), WalkError>
+) -> Result<(), SetError>
     requires set { IsSet diagrams.old set }
     ensures keeps { Keeps diagrams.old diagrams.new }
     ensures adds { OnOk result (AddsPieces diagrams.old diagrams.new pieces.old.items
@@ -149,7 +148,7 @@ fn add_unlike_mark(
     set: PacketSet,
     new: MarkSource,
     pieces: &mut Vec<PacketSet>,
-) -> Result<(), WalkError>
+) -> Result<(), SetError>
     requires set { IsSet diagrams.old set }
     ensures keeps { Keeps diagrams.old diagrams.new }
     ensures adds { OnOk result (AddsPieces diagrams.old diagrams.new pieces.old.items
@@ -169,7 +168,7 @@ fn add_unlike_connection_mark(
     set: PacketSet,
     new: MarkSource,
     pieces: &mut Vec<PacketSet>,
-) -> Result<(), WalkError>
+) -> Result<(), SetError>
     requires set { IsSet diagrams.old set }
     ensures keeps { Keeps diagrams.old diagrams.new }
     ensures adds { OnOk result (AddsPieces diagrams.old diagrams.new pieces.old.items
@@ -190,7 +189,7 @@ fn add_unlike_number(
     number: u32,
     new: MarkSource,
     pieces: &mut Vec<PacketSet>,
-) -> Result<(), WalkError>
+) -> Result<(), SetError>
     requires set { IsSet diagrams.old set }
     ensures keeps { Keeps diagrams.old diagrams.new }
     ensures adds { OnOk result (AddsPieces diagrams.old diagrams.new pieces.old.items
@@ -216,7 +215,7 @@ fn add_marks(
     old: MarkSource,
     new: MarkSource,
     pieces: &mut Vec<PacketSet>,
-) -> Result<(), WalkError>
+) -> Result<(), SetError>
     requires set { IsSet diagrams.old set }
     ensures keeps { Keeps diagrams.old diagrams.new }
     ensures adds { OnOk result (AddsPieces diagrams.old diagrams.new pieces.old.items
@@ -231,25 +230,25 @@ fn add_marks(
 }
 
 /// The packets of a set that have a connection.
-fn with_connection(diagrams: &mut Diagrams, set: PacketSet) -> Result<PacketSet, WalkError>
+fn with_connection(diagrams: &mut Diagrams, set: PacketSet) -> Result<PacketSet, SetError>
     requires { IsSet diagrams.old set }
     ensures keeps { Keeps diagrams.old diagrams.new }
     ensures value { IfOk result (λ known. Means diagrams.new known
         (λ packet. holds diagrams.old set packet && has_connection packet)) }
 {
     let known = diagrams.at_least(FactField::Tracking.place(), 4)?;
-    Ok(diagrams.and(set, known)?)
+    diagrams.and(set, known)
 }
 
 /// The packets of a set for which the lookup is yet to come.
-fn before_lookup(diagrams: &mut Diagrams, set: PacketSet) -> Result<PacketSet, WalkError>
+fn before_lookup(diagrams: &mut Diagrams, set: PacketSet) -> Result<PacketSet, SetError>
     requires { IsSet diagrams.old set }
     ensures keeps { Keeps diagrams.old diagrams.new }
     ensures value { IfOk result (λ early. Means diagrams.new early
         (λ packet. holds diagrams.old set packet && is_before_lookup packet)) }
 {
     let early = diagrams.equal(FactField::Tracking.place(), 0)?;
-    Ok(diagrams.and(set, early)?)
+    diagrams.and(set, early)
 }
 
 /// Adds the packets of a set for which the lookup is yet to come and only one of the rulesets has ruled
@@ -260,7 +259,7 @@ fn add_untracked(
     old: bool,
     new: bool,
     pieces: &mut Vec<PacketSet>,
-) -> Result<(), WalkError>
+) -> Result<(), SetError>
     requires set { IsSet diagrams.old set }
     ensures keeps { Keeps diagrams.old diagrams.new }
     ensures adds { OnOk result (AddsPieces diagrams.old diagrams.new pieces.old.items
@@ -282,7 +281,7 @@ fn add_written(
     old: Written,
     new: Written,
     pieces: &mut Vec<PacketSet>,
-) -> Result<(), WalkError>
+) -> Result<(), SetError>
     requires set { IsSet diagrams.old set }
     ensures keeps { Keeps diagrams.old diagrams.new }
     ensures adds { OnOk result (AddsPieces diagrams.old diagrams.new pieces.old.items
@@ -303,7 +302,7 @@ fn written_pieces(
     set: PacketSet,
     old: StageOutcome,
     new: StageOutcome,
-) -> Result<Vec<PacketSet>, WalkError>
+) -> Result<Vec<PacketSet>, SetError>
     requires set { IsSet diagrams.old set }
     requires verdict { old.verdict ≡ new.verdict }
     ensures keeps { Keeps diagrams.old diagrams.new }
@@ -329,7 +328,7 @@ pub(crate) fn pieces(
     set: PacketSet,
     old: StageOutcome,
     new: StageOutcome,
-) -> Result<Vec<PacketSet>, WalkError>
+) -> Result<Vec<PacketSet>, SetError>
     requires set { IsSet diagrams.old set }
     ensures keeps { Keeps diagrams.old diagrams.new }
     ensures value { IfOk result (λ pieces.

@@ -6,8 +6,10 @@ ghost use Rattle.fact_sets.specs.Boxes.{NOTHING};
 ghost use Rattle.fact_sets.specs.Effects.{AreCases};
 ghost use Rattle.fact_sets.specs.Facts.{facts_of};
 ghost use Rattle.rule_sets.specs.Interfaces.{interfaces_of};
-ghost use Rattle.chain_ways.specs.BaseWays.{accepts};
+ghost use Rattle.chain_ways.specs.BaseWays.{accepts, filters_of};
+ghost use Rattle.chain_ways.specs.Nesting.{SomeNestsOver};
 ghost use Rattle.chain_sets.specs.declared.fault.WalkError.TheVariants as walks;
+ghost use Rattle.chain_sets.specs.declared.ways.TheConstants.{LEVELS};
 ghost use Rattle.chain_sets.specs.steps.Merging.{some_outcome};
 ghost use Rattle.stage_sets.specs.steps.Outcomes.{goes_accepted};
 
@@ -83,6 +85,9 @@ pub fn accepted(
         (facts_of (interfaces_of checked.entry.now.plant) NOTHING packet))) }
     ensures too_large { IfErr result (λ e. e ≡ walks.TooLarge
         → diagrams.new.limit ≤ length diagrams.new.nodes) }
+    ensures too_deep { IfErr result (λ e. e ≡ walks.TooDeep
+        → SomeNestsOver LEVELS checked.entry.now.plant checked.entry.now.rules
+        (filters_of checked.entry.now.rules)) }
 {
     checked.known_bounds();
     let plant = checked.plant();

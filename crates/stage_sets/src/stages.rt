@@ -1,11 +1,13 @@
 //! The packets of a set through the base chains of a stage.
-ghost use Rattle.std.specs.Prelude.{◌≡◌, ◌≤◌, ◌∷◌, [], All, List, length, map, IfOk, IfErr};
+ghost use Rattle.std.specs.Prelude.{◌≡◌, ◌≤◌, ◌∷◌, [], All, List, filter, length, map, IfOk, IfErr};
 ghost use Rattle.packet_sets.specs.Sets.{IsSet, Keeps};
 ghost use Rattle.rule_check.specs.WellFormed.{WellFormed};
-ghost use Rattle.rule_meaning.specs.Hooks.{BaseChain};
+ghost use Rattle.rule_meaning.specs.Hooks.{BaseChain, base_chains_of, chains_in_stage};
 ghost use Rattle.rule_sets.specs.Interfaces.{interfaces_of};
 ghost use Rattle.chain_ways.specs.BaseWays.{AreChainsOf, end_of_chains};
-ghost use Rattle.chain_sets.specs.declared.fault.WalkError.TheVariants.{TooLarge};
+ghost use Rattle.chain_ways.specs.Nesting.{SomeNestsOver};
+ghost use Rattle.chain_sets.specs.declared.fault.WalkError.TheVariants.{TooDeep, TooLarge};
+ghost use Rattle.chain_sets.specs.declared.ways.TheConstants.{LEVELS};
 ghost use Rattle.stage_sets.specs.Ends.{AreStageEnds};
 ghost use Rattle.stage_sets.specs.steps.Bases.{StandsIn, base_chain};
 ghost use Rattle.stage_sets.specs.steps.Outcomes.{unchanged};
@@ -59,6 +61,8 @@ pub(crate) fn through_all(
         diagrams.old diagrams.new set outcomes.items) }
     ensures too_large { IfErr result (λ e. e ≡ TooLarge
         → diagrams.new.limit ≤ length diagrams.new.nodes) }
+    ensures too_deep { IfErr result (λ e. e ≡ TooDeep
+        → SomeNestsOver LEVELS plant.now tables.now (map base_chain bases.now)) }
 {
     let mut outcomes = unchanged(alloc, set)?;
     for base in bases {
@@ -96,6 +100,9 @@ pub fn stage_outcomes(
         diagrams.old diagrams.new set outcomes.items) }
     ensures too_large { IfErr result (λ e. e ≡ TooLarge
         → diagrams.new.limit ≤ length diagrams.new.nodes) }
+    ensures too_deep { IfErr result (λ e. e ≡ TooDeep
+        → SomeNestsOver LEVELS checked.entry.now.plant checked.entry.now.rules
+        (filter (chains_in_stage stage) (base_chains_of checked.entry.now.rules))) }
 {
     checked.known_bounds();
     hook_result_unique();

@@ -4,8 +4,11 @@ ghost use Rattle.std.specs.List.{list_any};
 ghost use Rattle.packet_sets.specs.Sets.{Keeps};
 ghost use Rattle.rule_types.specs.Types.{table_mismatches};
 ghost use Rattle.rule_values.specs.Faults.{item_out_of_range};
+ghost use Rattle.rule_meaning.specs.Runs.{table_program};
 ghost use Rattle.fact_sets.specs.Effects.{AreCases};
-ghost use Rattle.chain_sets.specs.declared.fault.WalkError.TheVariants.{TooLarge};
+ghost use Rattle.chain_ways.specs.Nesting.{NestsOver};
+ghost use Rattle.chain_sets.specs.declared.fault.WalkError.TheVariants.{TooDeep, TooLarge};
+ghost use Rattle.chain_sets.specs.declared.ways.TheConstants.{LEVELS};
 ghost use Rattle.stage_sets.specs.steps.Bases.{base_chain};
 ghost use Rattle.stage_sets.specs.steps.Through.{Advances, end_in};
 
@@ -44,6 +47,9 @@ pub(crate) fn through(
         diagrams.old diagrams.new outcomes.now after.items) }
     ensures too_large { IfErr result (λ e. e ≡ TooLarge
         → diagrams.new.limit ≤ length diagrams.new.nodes) }
+    ensures too_deep { IfErr result (λ e. e ≡ TooDeep → NestsOver
+        (table_program place.entry.setting.plant.now base.entry.number.table
+        place.entry.setting.names.now) LEVELS base.entry.number.chain) }
 {
     let setting = place.setting;
     let interfaces = place.interfaces;

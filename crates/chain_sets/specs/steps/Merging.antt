@@ -1,7 +1,7 @@
 -- Cases as what they say of a packet.
-use Rattle.std.specs.Prelude.{◌≡◌, ℕ, Bool, ◌||◌, List}
+use Rattle.std.specs.Prelude.{◌≡◌, ℕ, Bool, true, ◌||◌, List, [], ◌∷◌}
 use Rattle.std.specs.List.{list_any}
-use Rattle.packet_sets.specs.Sets.{DiagramsView}
+use Rattle.packet_sets.specs.Sets.{DiagramsView, holds}
 use Rattle.fact_sets.specs.declared.cases.Case.{Case}
 use Rattle.fact_sets.specs.Effects.{AreCases}
 use Rattle.rule_sets.specs.Ends.{outcomes_for}
@@ -15,6 +15,11 @@ pub record Adds {V : Type 0} (old new : DiagramsView) (more before after : List 
   pub are : AreCases new after
   pub same : (packet : ℕ → Bool) (test : V → Bool) → some_outcome new after packet test
       ≡ (some_outcome old before packet test || some_outcome old more packet test)
+
+-- each case has a packet
+abbrev pub HavePackets : {V : Type 0} → DiagramsView → List (Case V) → Type 0
+HavePackets d [] = Unit {0}
+HavePackets d (c ∷ cs) = ((packet : ℕ → Bool) × (holds d c.set packet ≡ true)) × HavePackets d cs
 
 -- the same case with another outcome
 abbrev pub with_outcome : {V W : Type 0} → (V → W) → Case V → Case W

@@ -8,6 +8,7 @@ use Rattle.chain_sets.specs.RuleSets.{sets_of}
 use Rattle.chain_sets.specs.steps.Merging.{Adds}
 use Rattle.chain_sets.proofs.Cases.{are-at}
 use Rattle.chain_sets.proofs.Exits.{any_state}
+use Rattle.chain_sets.proofs.Packets.{packets-kept}
 use Rattle.chain_sets.proofs.Passing.{turns_all, turns_more, turns_next}
 use Rattle.chain_sets.proofs.turns.rule_turns.Goals as goal
 
@@ -51,6 +52,8 @@ loop-state-preserved c =
           c.loop-state.invariant.so_far) c.state_turns.ensures.keeps c.in_ok-more.ensures.turns c.add_cases.ensures.keeps
           (subst (λ ts. Adds c.state_turns.new.diagrams c.add_cases.new.diagrams ts c.loop-state.turns.items c.add_cases.new.cases.items)
           c.deref.ensures.value c.in_ok-add_cases.ensures.adds);
+      packets = c.in_ok-add_cases.ensures.packets (packets-kept c.loop-state.diagrams c.state_turns.new.diagrams c.loop-state.turns.items
+          c.state_turns.ensures.keeps c.loop-state.invariant.so_far.are c.loop-state.invariant.packets);
       extends = extends_trans c.args.lookups.now c.loop-state.lookups c.state_turns.new.lookups c.loop-state.invariant.extends
           c.in_ok-more.ensures.extends;
     }
@@ -61,3 +64,6 @@ returns-clause-turns c =
     (map statement c.args.stmts.now) c.args.table.interfaces.now c.args.diagrams.now c.loop-state.diagrams
     (drop c.loop-state.state-index c.args.states.now) c.args.states.now c.loop-state.turns.items (sets_of c.args.visits.now) (sets_of c.loop-state.visits)
     (drop_all c.loop-state.state-index c.args.states.now (omega arith)) c.loop-state.invariant.so_far
+
+pub returns-clause-packets : goal.returns-clause-packets
+returns-clause-packets c = c.loop-state.invariant.packets

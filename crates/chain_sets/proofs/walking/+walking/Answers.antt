@@ -1,7 +1,8 @@
 use Rattle.std.proofs.Common.{ap, arith, drop, false, get_or, length, map, subst, sym, ◌+◌, ◌<◌, ◌≤◌, ◌≡◌, ◌∙◌}
 use Rattle.std.specs.List.{list_any}
 use Rattle.std.proofs.lemmas.List.{drop_all}
-use Rattle.std.proofs.lemmas.Result.{IfOk-weaker}
+use Rattle.std.proofs.lemmas.List.Elements.{Contains-get_or}
+use Rattle.std.proofs.lemmas.Result.{IfErr-weaker, IfOk-weaker}
 use Rattle.nft_tree.specs.TreeViews.{rule_tree, statement}
 use Rattle.rule_types.specs.Types.{rule_mismatches, statement_mismatches}
 use Rattle.rule_values.specs.Faults.{statement_out_of_range}
@@ -13,11 +14,13 @@ use Rattle.chain_sets.specs.declared.outcomes.Exit.TheVariants.{Ends}
 use Rattle.chain_sets.specs.RuleSets.{sets_of}
 use Rattle.chain_sets.specs.steps.Merging.{Adds, with_outcome}
 use Rattle.chain_sets.specs.steps.Outcomes.{back_from, end_without}
+use Rattle.chain_sets.specs.steps.Nesting.{RuleNests, SomeTurnNests}
 use Rattle.chain_sets.specs.steps.Turns.{GoThrough}
 use Rattle.chain_sets.specs.steps.Walking.{Pass, statements_in}
 use Rattle.chain_sets.proofs.Cases.{are-at, are-mapped}
 use Rattle.chain_sets.proofs.Exits.{any_turn, ends-are, ends_in, states_in}
 use Rattle.chain_sets.proofs.Levels.{exits_more, exits_next, leaves_by_goto, leaves_by_jump, passes, rules_all, rules_more}
+use Rattle.chain_sets.proofs.Nesting.{chain_nests, goto_nests, jump_nests, never, none_left, passed_on, rule_nests}
 use Rattle.chain_sets.proofs.TableRules.{bounds-free, none-at, program-rules, rule_out_of_range, statements-at, statements-long, types-free}
 use Rattle.chain_sets.proofs.walking.+walking.Goals as goal
 
@@ -57,6 +60,28 @@ pass_rule-returns-clause-value t c =
     IfOk-weaker c.rule_exits.result _ _ (λ exits leave. passes (table_program plant c.args.table.number names) inside c.args.levels rule.chain rule.rule ss
     d0 d1 c.rule_exits.new.diagrams c.args.states.now c.deref.result.now exits.items before middle (sets_of c.rule_exits.new.visits) goes leave)
     c.rule_exits.ensures.value
+
+pub pass_rule-returns-in_err-turns-clause-too_deep : goal.pass_rule-returns-in_err-turns-clause-too_deep
+pass_rule-returns-in_err-turns-clause-too_deep t c = never _ c.from_residual.result _ c.from_residual.ensures.1
+
+pub pass_rule-returns-clause-too_deep : goal.pass_rule-returns-clause-too_deep
+pass_rule-returns-clause-too_deep t c =
+    let plant = c.args.table.setting.plant.now in
+    let names = c.args.table.setting.names.now in
+    let rule = c.args.rule in
+    let ss = map statement c.args.stmts.now in
+    let d0 = c.args.diagrams.now in
+    let d1 = c.rule_turns.new.diagrams in
+    let before = sets_of c.args.visits.now in
+    let middle = sets_of c.rule_turns.new.visits in
+    let inside = c.args.table.interfaces.now in
+    let turns = c.in_ok-turns.turns.items in
+    let goes = subst (λ m. GoThrough (table_program plant m names) inside rule.chain rule.rule ss d0 d1 c.args.states.now turns before middle)
+    c.requires.here c.in_ok-turns.ensures.turns in
+    IfErr-weaker c.rule_exits.result _ _ (λ e why deep. rule_nests (table_program plant c.args.table.number names) inside c.args.levels rule.chain
+    rule.rule ss d0 d1 c.args.states.now turns before middle goes c.in_ok-turns.ensures.packets
+    (subst (SomeTurnNests (table_program plant c.args.table.number names) c.args.levels) c.deref.ensures.value (why deep)))
+    c.rule_exits.ensures.too_deep
 
 -- ---- turn after turn
 
@@ -114,6 +139,16 @@ rule_exits-loop-turn-preserved t c =
           c.in_ok-more.ensures.extends;
     }
 
+pub rule_exits-returns-in_err-more-clause-too_deep : goal.rule_exits-returns-in_err-more-clause-too_deep
+rule_exits-returns-in_err-more-clause-too_deep t c = passed_on c.from_residual.result _ (λ e same deep. record {
+  turn = get_or c.args.turns.now c.loop-turn.turn-index any_turn;
+  among = Contains-get_or c.args.turns.now c.loop-turn.turn-index any_turn c.loop-turn-test.true;
+  nests = c.in_err-more.ensures.too_deep (sym same ∙ deep);
+}) c.from_residual.ensures.1
+
+pub rule_exits-returns-in_err-add_cases-clause-too_deep : goal.rule_exits-returns-in_err-add_cases-clause-too_deep
+rule_exits-returns-in_err-add_cases-clause-too_deep t c = never _ c.from_residual-in_err-add_cases.result _ c.from_residual-in_err-add_cases.ensures.1
+
 -- ---- one turn
 
 pub turn_exits-returns-in_ok-back-in-Jump-clause-value : goal.turn_exits-returns-in_ok-back-in-Jump-clause-value
@@ -129,6 +164,18 @@ turn_exits-returns-in_ok-gone-in-Goto-clause-value t c =
     c.args.rule c.args.levels c.in-Goto.chain c.args.diagrams.now c.walk_chain-in-Goto.new.diagrams c.args.turn c.in_ok-ends-in-Goto.ends.items
     c.in_ok-gone-in-Goto.field-0.items (sets_of c.args.visits.now) (sets_of c.walk_chain-in-Goto.new.visits) (sym c.in-Goto.is ∙ c.course_of.ensures)
     c.in_ok-ends-in-Goto.ensures.value (c.in_ok-gone-in-Goto.ensures ∙ ap (map (with_outcome Ends)) c.deref-in-Goto.ensures.value)
+
+pub turn_exits-returns-in_err-ends-in-Jump-clause-too_deep : goal.turn_exits-returns-in_err-ends-in-Jump-clause-too_deep
+turn_exits-returns-in_err-ends-in-Jump-clause-too_deep t c = passed_on c.from_residual-in_err-ends-in-Jump.result _ (λ e same deep.
+    jump_nests (table_program c.args.table.setting.plant.now c.args.table.number c.args.table.setting.names.now) c.args.rule c.args.levels
+    c.in-Jump.chain c.args.turn.outcome (sym c.in-Jump.is ∙ c.course_of.ensures) (c.in_err-ends-in-Jump.ensures.too_deep (sym same ∙ deep)))
+    c.from_residual-in_err-ends-in-Jump.ensures.1
+
+pub turn_exits-returns-in_err-ends-in-Goto-clause-too_deep : goal.turn_exits-returns-in_err-ends-in-Goto-clause-too_deep
+turn_exits-returns-in_err-ends-in-Goto-clause-too_deep t c = passed_on c.from_residual-in_err-ends-in-Goto.result _ (λ e same deep.
+    goto_nests (table_program c.args.table.setting.plant.now c.args.table.number c.args.table.setting.names.now) c.args.rule c.args.levels
+    c.in-Goto.chain c.args.turn.outcome (sym c.in-Goto.is ∙ c.course_of.ensures) (c.in_err-ends-in-Goto.ensures.too_deep (sym same ∙ deep)))
+    c.from_residual-in_err-ends-in-Goto.ensures.1
 
 -- ---- a chain
 
@@ -262,3 +309,34 @@ walk_chain-returns-clause-value t c =
     (ap statements_in c.rules_of-rules.ensures ∙ program-rules plant c.args.table.number names c.args.chain) (drop_all i rs past)
     c.loop-index.invariant.so_far c.add_cases-2.ensures.keeps
     (c.deref-3.ensures.value ∙ c.in_ok-ended.ensures ∙ ap (map (with_outcome end_without)) c.deref-2.ensures.value) c.in_ok-add_cases-2.ensures.adds
+
+pub walk_chain-returns-in_err-exits-clause-too_deep : goal.walk_chain-returns-in_err-exits-clause-too_deep
+walk_chain-returns-in_err-exits-clause-too_deep t c = passed_on c.from_residual-in_err-exits.result _ (λ e same deep.
+    let plant = c.args.table.setting.plant.now in
+    let names = c.args.table.setting.names.now in
+    let p = table_program plant c.args.table.number names in
+    let rules = c.rules_of-rules.result.now in
+    let rs = statements_in (map rule_tree rules) in
+    let i = c.loop-index.index in
+    let item = c.index-rules-index.result in
+    let number = c.in_ok-number.number in
+    let ss = map statement c.deref.result.now in
+    let long : length rs ≡ length rules = statements-long rule_tree rules in
+    let within : i < length rs = omega (arith, long, c.loop-index-test.true) in
+    let level : c.in-Some.deeper + 1 ≡ c.args.levels = omega (arith, c.in-Some.ensures) in
+    chain_nests p c.args.levels c.in-Some.deeper c.args.chain i number.rule rs ss level
+    (ap statements_in c.rules_of-rules.ensures ∙ program-rules plant c.args.table.number names c.args.chain) within
+    (statements-at rule_tree rules i item ss c.loop-index-test.true ∙ ap (λ r. (rule_tree r).statements) (sym c.index-rules-index.is)
+    ∙ ap (map statement) (sym c.deref.ensures.value))
+    (ap (λ r. r.rule) c.in_ok-number.ensures)
+    (subst (λ ch. RuleNests p c.in-Some.deeper ch number.rule ss) (ap (λ r. r.chain) c.in_ok-number.ensures)
+    (c.in_err-exits.ensures.too_deep (sym same ∙ deep)))) c.from_residual-in_err-exits.ensures.1
+
+pub walk_chain-returns-in_err-add_cases-clause-too_deep : goal.walk_chain-returns-in_err-add_cases-clause-too_deep
+walk_chain-returns-in_err-add_cases-clause-too_deep t c = never _ c.from_residual-in_err-add_cases.result _ c.from_residual-in_err-add_cases.ensures.1
+
+pub walk_chain-returns-in_err-add_cases-2-clause-too_deep : goal.walk_chain-returns-in_err-add_cases-2-clause-too_deep
+walk_chain-returns-in_err-add_cases-2-clause-too_deep t c = never _ c.from_residual-in_err-add_cases-2.result _ c.from_residual-in_err-add_cases-2.ensures.1
+
+pub walk_chain-returns-in_default-clause-too_deep : goal.walk_chain-returns-in_default-clause-too_deep
+walk_chain-returns-in_default-clause-too_deep t c = λ deep. none_left _ c.args.levels c.args.chain c.in_default.ensures

@@ -1,4 +1,4 @@
-use Rattle.std.proofs.Common.{[], drop, filter, length, refl, ◌+◌, ◌∙◌}
+use Rattle.std.proofs.Common.{sym, [], drop, filter, length, refl, ◌+◌, ◌∙◌}
 use Rattle.std.proofs.lemmas.Bool.{false_from_ne_true, or_parts}
 use Rattle.std.proofs.lemmas.Option.{slice_get_read}
 use Rattle.nft_tree.specs.TableItems.{chains_of}
@@ -8,6 +8,10 @@ use Rattle.rule_check.specs.declared.fault.CheckFault.TheVariants as faults
 use Rattle.rule_meaning.specs.Hooks.{base_chains_from, base_chains_of_tables}
 use Rattle.coming_sets.specs.Bases.{runs}
 use Rattle.rule_reach.specs.Reach.{run_chains}
+use Rattle.chain_ways.proofs.Nesting.{nests_among}
+use Rattle.chain_sets.proofs.Nesting.{passed_on}
+use Rattle.chain_sets.specs.declared.ways.TheConstants.{LEVELS}
+use Rattle.rule_reach.proofs.Nesting.{of_table}
 use Rattle.rule_reach.proofs.Bases.{done_more, done_none, none_at, tables_left}
 use Rattle.rule_reach.proofs.making.bases_by.Goals as goal
 
@@ -51,3 +55,15 @@ loop-table-preserved c =
           (filter runs (base_chains_of_tables (i + 1) (drop (i + 1) checked.rules))) c.loop-table.bases.items c.add_table.new.bases.items
           (tables_left i checked.rules t at) (λ so_far is. added checked.rules so_far at is) c.loop-table.invariant.sets;
     }
+
+pub returns-in_err-add_table-clause-too_deep : goal.returns-in_err-add_table-clause-too_deep
+returns-in_err-add_table-clause-too_deep c = passed_on c.from_residual-in_err-add_table.result _ (λ e is deep.
+    let checked = c.args.checked.now in
+    let i = c.loop-table.table in
+    let t = c.names-item.result in
+    let list = c.deref-names-items.result.now in
+    let at = rw (c.deref-names-items.ensures.value, c.in_ok-tables.ensures) at
+    (slice_get_read list (length list) i t refl c.loop-table-test.true c.names-item.is) in
+    let here = rw (c.plant-plant.ensures, c.in_ok-to_u32.ensures) at (c.in_err-add_table.ensures.too_deep (sym is ∙ deep)) in
+    nests_among LEVELS checked.plant checked.plant checked.rules checked.rules (filter runs (base_chains_from i 0 (chains_of t)))
+    (run_chains checked.rules) refl refl (λ b. of_table i checked.rules t b at) (here checked.rules at)) c.from_residual-in_err-add_table.ensures.1

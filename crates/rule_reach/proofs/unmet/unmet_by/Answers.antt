@@ -1,9 +1,11 @@
-use Rattle.std.proofs.Common.{All, subst, sym}
+use Rattle.std.proofs.Common.{All, subst, sym, ◌∙◌}
 use Rattle.std.proofs.lemmas.List.Elements.{All-push}
 use Rattle.fact_sets.proofs.SetLaws.{keeps_trans}
+use Rattle.chain_sets.proofs.Nesting.{passed_on}
 use Rattle.rule_reach.specs.Reach.{run_chains}
 use Rattle.rule_reach.specs.Takers.{IsUnmet}
 use Rattle.rule_reach.proofs.Made.{all_kept}
+use Rattle.rule_reach.proofs.Nesting.{not_deep}
 use Rattle.rule_reach.proofs.NotMet.{rule_met, rule_more}
 use Rattle.rule_reach.proofs.unmet.unmet_by.Goals as goal
 use Rattle.rule_reach.proofs.unmet.unmet_by.Goals.{else-is_unmet, then-is_unmet+in_ok-unmet+in_ok-push}
@@ -48,3 +50,7 @@ loop-rule-preserved c =
         why = rw w.all-is inv.why;
       }
     ]
+
+pub returns-in_err-unmet-clause-never_deep : goal.returns-in_err-unmet-clause-never_deep
+returns-in_err-unmet-clause-never_deep c =
+    passed_on c.from_residual-in_err-unmet.result _ (λ e is deep. not_deep _ (sym is ∙ deep)) c.from_residual-in_err-unmet.ensures.1

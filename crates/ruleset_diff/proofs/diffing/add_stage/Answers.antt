@@ -1,15 +1,21 @@
-use Rattle.std.proofs.Common.{ap, subst, sym, ◌&&◌, ◌∙◌}
+use Rattle.std.proofs.Common.{ap, filter, refl, subst, sym, ◌&&◌, ◌∙◌}
 use Rattle.std.proofs.lemmas.Option.{IfSome_then}
 use Rattle.fact_sets.proofs.SetLaws.{keeps_trans}
 use Rattle.packet_sets.specs.Sets.{Means}
 use Rattle.fact_sets.specs.Boxes.{NOTHING}
 use Rattle.fact_sets.specs.Facts.{facts_of}
+use Rattle.rule_meaning.specs.Hooks.{base_chains_of, chains_in_stage}
 use Rattle.rule_sets.specs.Interfaces.{interfaces_of}
 use Rattle.rule_sets.proofs.Sorting.{are-kept}
 use Rattle.chain_ways.specs.BaseWays.{StageRunsAreWays, end_of_chains}
+use Rattle.chain_ways.proofs.Nesting.{nests_among}
+use Rattle.chain_ways.proofs.Stages.{in_list}
+use Rattle.chain_sets.proofs.Nesting.{never, passed_on}
+use Rattle.chain_sets.specs.declared.ways.TheConstants.{LEVELS}
 use Rattle.coming_sets.specs.Coming.{can_come_to}
 use Rattle.stage_sets.specs.Ends.{AreStageEnds}
 use Rattle.ruleset_diff.specs.Differences.{assumption}
+use Rattle.ruleset_diff.specs.Nesting.{in_assumed, in_new, in_old}
 use Rattle.ruleset_diff.proofs.Stages.{stage_added}
 use Rattle.ruleset_diff.proofs.diffing.add_stage.Goals as goal
 
@@ -67,3 +73,26 @@ returns-in_err-compare_all-clause-keeps c = keeps_trans c.args.diagrams.now c.st
 
 pub returns-clause-keeps : goal.returns-clause-keeps
 returns-clause-keeps c = keeps_trans c.args.diagrams.now c.stage_outcomes-2.new.diagrams c.compare_all.new.diagrams (keeps_trans c.args.diagrams.now c.stage_outcomes.new.diagrams c.stage_outcomes-2.new.diagrams (keeps_trans c.args.diagrams.now c.coming_within.new.diagrams c.stage_outcomes.new.diagrams c.coming_within.ensures.keeps c.stage_outcomes.ensures.keeps) c.stage_outcomes-2.ensures.keeps) c.compare_all.ensures.keeps
+
+pub returns-in_err-coming-clause-too_deep : goal.returns-in_err-coming-clause-too_deep
+returns-in_err-coming-clause-too_deep c =
+    passed_on c.from_residual.result _ (λ e same deep. in_assumed (c.in_err-coming.ensures.too_deep (sym same ∙ deep))) c.from_residual.ensures.1
+
+pub returns-in_err-by_old-clause-too_deep : goal.returns-in_err-by_old-clause-too_deep
+returns-in_err-by_old-clause-too_deep c = passed_on c.from_residual-in_err-by_old.result _ (λ e same deep.
+    let old = c.args.old.now in
+    let bases = base_chains_of old.rules in
+    in_old (nests_among LEVELS old.plant old.plant old.rules old.rules (filter (chains_in_stage c.args.stage) bases) bases refl refl
+    (in_list (chains_in_stage c.args.stage) bases) (c.in_err-by_old.ensures.too_deep (sym same ∙ deep))))
+    c.from_residual-in_err-by_old.ensures.1
+
+pub returns-in_err-by_new-clause-too_deep : goal.returns-in_err-by_new-clause-too_deep
+returns-in_err-by_new-clause-too_deep c = passed_on c.from_residual-in_err-by_new.result _ (λ e same deep.
+    let new = c.args.new.now in
+    let bases = base_chains_of new.rules in
+    in_new (nests_among LEVELS new.plant c.args.old.now.plant new.rules new.rules (filter (chains_in_stage c.args.stage) bases) bases
+    c.requires.same_box refl (in_list (chains_in_stage c.args.stage) bases) (c.in_err-by_new.ensures.too_deep (sym same ∙ deep))))
+    c.from_residual-in_err-by_new.ensures.1
+
+pub returns-in_err-compare_all-clause-too_deep : goal.returns-in_err-compare_all-clause-too_deep
+returns-in_err-compare_all-clause-too_deep c = never _ c.from_residual-in_err-compare_all.result _ c.from_residual-in_err-compare_all.ensures.1

@@ -3,6 +3,7 @@ use Rattle.std.proofs.lemmas.Option.{slice_get-get_or}
 use Rattle.rule_sets.specs.Interfaces.{interfaces_of}
 use Rattle.coming_sets.specs.Bases.{STAGES}
 use Rattle.ruleset_diff.specs.Differences.{assumption}
+use Rattle.chain_sets.proofs.Nesting.{never}
 use Rattle.ruleset_diff.proofs.Covering.{to_all, to_more, to_none}
 use Rattle.ruleset_diff.proofs.diffing.ruleset_diff.Goals as goal
 
@@ -31,3 +32,6 @@ returns-clause-differences c =
 
 pub returns-clause-limit : goal.returns-clause-limit
 returns-clause-limit c = c.loop-stage.invariant.limit
+
+pub returns-in_err-diagrams-clause-too_deep : goal.returns-in_err-diagrams-clause-too_deep
+returns-in_err-diagrams-clause-too_deep c = never _ c.from_residual.result _ c.from_residual.ensures.1

@@ -1,4 +1,4 @@
-use Rattle.std.proofs.Common.{All, List, ap, filter, map, subst, sym, ◌∙◌}
+use Rattle.std.proofs.Common.{All, Contains, List, ap, filter, map, subst, sym, ◌∙◌}
 use Rattle.packet_sets.specs.Sets.{Means}
 use Rattle.rule_meaning.specs.Hooks.{base_chains_of}
 use Rattle.fact_sets.specs.declared.cases.Case.{Case}
@@ -10,6 +10,9 @@ use Rattle.stage_sets.specs.declared.bases.Asked.TheVariants.{Filters}
 use Rattle.stage_sets.specs.declared.outcome.StageOutcome.{StageOutcome}
 use Rattle.stage_sets.specs.steps.Bases.{StandsIn, base_chain, is_asked}
 use Rattle.stage_sets.specs.steps.Outcomes.{goes_accepted}
+use Rattle.chain_ways.proofs.Nesting.{nests_among}
+use Rattle.chain_sets.specs.declared.ways.TheConstants.{LEVELS}
+use Rattle.chain_sets.proofs.Nesting.{never, passed_on}
 use Rattle.stage_sets.proofs.AcceptedSets.{accepted_by_filters}
 use Rattle.stage_sets.proofs.AllChains.{same_ends}
 use Rattle.stage_sets.proofs.InStage.{text_stands}
@@ -46,3 +49,15 @@ returns-clause-value c =
     c.in_ok-outcomes.ensures.value)
     (subst (λ (l : List (Case StageOutcome)). Means e found (λ packet. some_outcome d l packet goes_accepted)) c.deref-4.ensures.value
     c.in_ok-accepted_of.ensures.value)
+
+pub returns-in_err-outcomes-clause-too_deep : goal.returns-in_err-outcomes-clause-too_deep
+returns-in_err-outcomes-clause-too_deep c = passed_on c.from_residual-in_err-outcomes.result _ (λ e same deep.
+    let checked = c.args.checked.now in
+    nests_among LEVELS _ checked.plant _ checked.rules (map base_chain c.deref-3.result.now) (filters_of checked.rules) c.plant-plant.ensures
+    (c.deref-2.ensures.value ∙ c.in_ok-tables.ensures)
+    (λ b among. subst (λ l. Contains l b) (ap (map base_chain) c.deref-3.ensures.value ∙ c.in_ok-bases.ensures
+    ∙ ap filters_of (c.deref.ensures.value ∙ c.in_ok-tables.ensures)) among) (c.in_err-outcomes.ensures.too_deep (sym same ∙ deep)))
+    c.from_residual-in_err-outcomes.ensures.1
+
+pub returns-in_err-accepted_of-clause-too_deep : goal.returns-in_err-accepted_of-clause-too_deep
+returns-in_err-accepted_of-clause-too_deep c = never _ c.from_residual-in_err-accepted_of.result _ c.from_residual-in_err-accepted_of.ensures.1

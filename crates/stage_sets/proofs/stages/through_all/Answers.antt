@@ -1,10 +1,15 @@
-use Rattle.std.proofs.Common.{[], length, map, refl, subst, sym, take}
+use Rattle.std.proofs.Common.{[], Contains, get_or, length, map, refl, subst, sym, take, ◌∙◌}
+use Rattle.std.proofs.lemmas.List.Elements.{Contains-get_or}
 use Rattle.std.proofs.lemmas.Option.{slice_get_read}
+use Rattle.list_laws.specs.Elements.{Contains-map}
 use Rattle.list_laws.specs.Lists.{map-more}
 use Rattle.rule_sets.proofs.Sorting.{keeps_same, keeps_trans}
 use Rattle.chain_ways.specs.BaseWays.{end_of_chains}
 use Rattle.stage_sets.specs.Ends.{AreStageEnds}
 use Rattle.stage_sets.specs.steps.Bases.{StandsIn, base_chain}
+use Rattle.chain_ways.proofs.Nesting.{nests_here}
+use Rattle.chain_sets.proofs.Nesting.{passed_on}
+use Rattle.chain_sets.specs.declared.ways.TheConstants.{LEVELS}
 use Rattle.stage_sets.proofs.AllChains.{at_index, bounds_at, none_yet, one_more, types_at}
 use Rattle.stage_sets.proofs.stages.through_all.Goals as goal
 
@@ -61,3 +66,17 @@ loop-base-preserved c =
           (at_index plant tables inside (base_chain b) names d e c.deref.result.now before after at c.deref.ensures.value
           c.in_ok-outcomes-2.ensures.value));
     }
+
+pub returns-in_err-outcomes-2-clause-too_deep : goal.returns-in_err-outcomes-2-clause-too_deep
+returns-in_err-outcomes-2-clause-too_deep c = passed_on c.from_residual-in_err-outcomes-2.result _ (λ e same deep.
+    let plant = c.args.plant.now in
+    let tables = c.args.tables.now in
+    let bases = c.args.bases.now in
+    let i = c.loop-base.base-index in
+    let b = c.base-item.result in
+    let lt = subst (StandsIn tables) (sym c.base-item.is) (c.requires.bases i b c.loop-base-test.true) in
+    nests_here LEVELS plant tables (map base_chain bases) (base_chain b) c.index-tables-base.result
+    (slice_get_read tables (length tables) b.number.table c.index-tables-base.result refl lt c.index-tables-base.is)
+    (subst (λ x. Contains (map base_chain bases) (base_chain x)) (sym c.base-item.is)
+    (Contains-map base_chain bases (get_or bases i b) (Contains-get_or bases i b c.loop-base-test.true)))
+    (c.in_err-outcomes-2.ensures.too_deep (sym same ∙ deep))) c.from_residual-in_err-outcomes-2.ensures.1

@@ -10,6 +10,7 @@ use Rattle.chain_sets.specs.RuleSets.{sets_of}
 use Rattle.chain_sets.specs.steps.Merging.{Adds, with_outcome}
 use Rattle.stage_sets.specs.steps.Bases.{base_chain}
 use Rattle.stage_sets.specs.steps.Outcomes.{outcome_at}
+use Rattle.chain_sets.proofs.Nesting.{never}
 use Rattle.stage_sets.proofs.AllChains.{enough}
 use Rattle.stage_sets.proofs.Parts.{advanced, going-are}
 use Rattle.stage_sets.proofs.through.through.Goals as goal
@@ -48,3 +49,6 @@ returns-clause-value c =
     (c.in_ok-sets.ensures.value LEVELS enough))
     (c.in_ok-add_ends.ensures
     ∙ ap₂ (λ a e. a ++ map (with_outcome (outcome_at number policy)) e) c.in_ok-after.ensures c.deref-3.ensures.value)
+
+pub returns-in_err-states-clause-too_deep : goal.returns-in_err-states-clause-too_deep
+returns-in_err-states-clause-too_deep c = never _ c.from_residual-in_err-states.result _ c.from_residual-in_err-states.ensures.1
