@@ -67,6 +67,7 @@ impl AgedTracker {
     }
 
     /// Looks up a packet with this tuple and these flags at a moment.
+    #[inline(always)]
     fn find(&self, tuple: Tuple, flags: Flags, now: Moment, steps: &mut Steps) -> Belonging
         ensures belonging { result
             ≡ belongs_in (live_at self.now.limits now self.now.held) tuple flags }
@@ -112,6 +113,8 @@ impl Tracker for AgedTracker {
         Self::with_keys(alloc, WordState::new(hasher), idle)
     }
 
+    // Inlined, a result goes to its place in the packet's state without a copy.
+    #[inline(always)]
     fn look(&self, tuple: Tuple, flags: Flags, now: Moment, steps: &mut Steps) -> Belonging {
         independent_of_ids();
         self.find(tuple, flags, now, steps)

@@ -122,11 +122,12 @@ impl Flags {
     pub fn and(self, more: Flags) -> Self
         ensures { result ≡ seen_more true more self }
     {
+        // With `|`, which tests nothing, the four are one word.
         Flags {
-            syn: more.syn || self.syn,
-            ack: more.ack || self.ack,
-            fin: more.fin || self.fin,
-            rst: more.rst || self.rst,
+            syn: more.syn | self.syn,
+            ack: more.ack | self.ack,
+            fin: more.fin | self.fin,
+            rst: more.rst | self.rst,
         }
     }
 

@@ -77,7 +77,7 @@ fn route(setup: &Setup, state: &mut PacketState) -> Result<(), Cause>
         return Err(Cause::Ttl);
     }
     state.facts.packet.ttl -= 1;
-    state.facts.output = Some(setup.output_interface(interface));
+    setup.set_output(interface, &mut state.facts.output);
     Ok(())
 }
 

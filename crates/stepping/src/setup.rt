@@ -1,5 +1,5 @@
 //! The configuration of a box, compiled.
-ghost use Rattle.std.specs.Prelude.{◌≡◌, ◌≤◌, ℕ, [], IfOk, IfSome, List};
+ghost use Rattle.std.specs.Prelude.{◌≡◌, ◌≤◌, ℕ, [], IfOk, IfSome, List, Some};
 ghost use Rattle.std.specs.Option.{option_map};
 ghost use Rattle.nft_tree.specs.Tree.{TableTree};
 ghost use Rattle.rule_paths.specs.Paths.{AreAllCosts, Caller, ruleset_cost};
@@ -80,15 +80,15 @@ impl Setup {
         }
     }
 
-    /// The output interface of this index, which the box has.
+    /// Sets the output interface to that of this index, which the box has.
     #[inline(always)]
     #[tactic(auto, using(crate::proofs::FoundInterfaces::found))]
-    pub fn output_interface(&self, index: u32) -> Interface
-        ensures { result ≡ interface_facts self.now.hooks.plant index }
+    pub fn set_output(&self, index: u32, output: &mut Option<Interface>)
+        ensures { output.new ≡ Some (interface_facts self.now.hooks.plant index) }
     {
         match find_interface(&self.interfaces, index) {
-            Some(interface) => *interface,
-            None => interface_facts(self.plant(), index),
+            Some(interface) => *output = Some(*interface),
+            None => *output = Some(interface_facts(self.plant(), index)),
         }
     }
 
