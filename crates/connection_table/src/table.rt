@@ -245,6 +245,7 @@ impl<T: Tracker> ConnectionTable<T> {
 }
 
 /// Adds a holder of a mapping, if there is one, for which memory is reserved.
+#[inline(always)]
 fn hold(mappings: &mut Mappings, mapping: Option<Mapped>)
     requires one_to_one { IsOneToOne (listed mapping ++ mappings.old.held) }
     requires few { (m : Mapping) → holders_of m mappings.old.held ≤ 2097152 }

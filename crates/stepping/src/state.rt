@@ -69,8 +69,8 @@ impl PacketState {
         ensures info { self.new.info ≡ info }
         ensures entry { self.new.entry ≡ self.old.entry }
     {
-        self.facts.ct = info.ct();
         self.info = info;
+        self.facts.ct = self.info.ct();
     }
 
     /// The same by the look-up of its tuple, and its entry.
@@ -81,10 +81,14 @@ impl PacketState {
         ensures info { self.new.info ≡ ct_info_by tuple belonging }
         ensures entry { self.new.entry ≡ entry_of self.old.entry belonging }
     {
-        if let Belonging::Found(found) = &belonging {
-            self.entry = found.id;
+        // Each result is written where it is known which one it is.
+        match &belonging {
+            Belonging::Found(found) => {
+                self.entry = found.id;
+                self.set_info(CtInfo::of(tuple, belonging));
+            }
+            Belonging::NotFound | Belonging::Ends(_) => self.set_info(CtInfo::of(tuple, belonging)),
         }
-        self.set_info(CtInfo::of(tuple, belonging));
     }
 }
 

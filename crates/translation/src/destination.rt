@@ -41,6 +41,7 @@ pub fn apply_destination_nat(
     update_destination(info, facts);
 }
 
+#[inline(always)]
 fn translate_destination(
     plant: &Plant,
     mappings: &Mappings,

@@ -17,6 +17,7 @@ pub struct ExternalSource {
 
 /// By the NAT statement that ended the nat chains, or without one by the mapping that gave the
 /// packet its destination.
+#[inline(always)]
 pub(crate) fn external_source(
     plant: &Plant,
     facts: &Facts,

@@ -50,6 +50,7 @@ pub fn apply_source_nat(
     Ok(())
 }
 
+#[inline(always)]
 fn translate_source(
     mappings: &Mappings,
     new_connection: &mut NewConnection,
