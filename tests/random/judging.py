@@ -21,12 +21,16 @@ FOR_EACH_LINE, MOST_TOLD = 6, 240
 @dataclass(frozen=True)
 class Judged:
     """What is wrong; how many facts were compared with what is told, how many of them differ; and how many differ and
-    aren't told, where not all is."""
+    aren't told, where not all is. Of many facts (many.py) beside that how many classes are told, of how many a fact
+    was there, and how many facts were taken by the plain reading too."""
 
     wrong: tuple[str, ...] = ()
     compared: int = 0
     differ: int = 0
     not_judged: int = 0
+    classes: int = 0
+    shown: int = 0
+    plainly: int = 0
 
     def __add__(self, other: Judged) -> Judged:
         return Judged(*(getattr(self, name) + getattr(other, name) for name in self.__dataclass_fields__))
@@ -76,11 +80,15 @@ class Judging:
     def judged(self, count: int) -> Judged:
         """All of it, by so many facts for each stage at which something may differ, and by as many near what is
         told."""
+        return sum((self.judged_at(stage, count) for stage in BY_NAME), self.by_itself())
+
+    def by_itself(self) -> Judged:
+        """What is wrong of the answer without any facts."""
         wrong = self.told.faults()
         if self.pair.is_same and self.told.classes:
             heads = [f"{one.stage}: {one.old}, now {one.new}" for one in self.told.classes[:3]]
             wrong.append(f"they do the same, and are told to differ: {heads}")
-        return sum((self.judged_at(stage, count) for stage in BY_NAME), Judged(tuple(wrong)))
+        return Judged(tuple(wrong))
 
     def judged_at(self, stage: str, count: int) -> Judged:
         """What is told of a stage."""

@@ -135,7 +135,7 @@ def match_from(tokens: list[str]) -> Match:
     if selector in OF_BITS:
         test = HasBits(operator, sum(WORDS[selector][word] for word in listed(tokens, ",")))
     else:
-        elements = list(elements_from(tokens, selector))
+        elements = tuple(elements_from(tokens, selector))
         test = IsIn(operator, elements, "told")
     return Match((selector,), operator, test, selector)
 
