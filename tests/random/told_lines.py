@@ -7,6 +7,7 @@ from __future__ import annotations
 
 import re
 from dataclasses import dataclass, field
+from functools import lru_cache
 from typing import Dict, Iterator, Sequence, Tuple
 
 from reading import SELECTORS, Element, HasBits, HasOfMask, IsIn, Match, Met, Name, Part, Span, Test
@@ -110,6 +111,7 @@ def lines_of(sets: Sets, word: str, where: Where, base: str) -> Lines:
     return (sets.reached if word == "reached" else sets.met).setdefault(where, {}).setdefault(base, Lines())
 
 
+@lru_cache(maxsize=4096)  # sets of rules one behind another have many lines in common
 def line_of(text: str) -> Line:
     """The matches of a line."""
     if text == "any packet":
@@ -180,6 +182,7 @@ def elements_from(tokens: list[str], selector: str) -> Iterator[Element]:
         raise Unread(selector)
 
 
+@lru_cache(maxsize=65_536)
 def part_of(word: str, selector: str) -> Part:
     """A value, a range or a prefix."""
     if word.startswith('"'):
