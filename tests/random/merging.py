@@ -13,6 +13,7 @@ from typing import Iterator, Sequence
 MOST_ROUNDS = 12
 PLACE = re.compile(r"[^:]*:([0-9]+):([0-9]+)-([0-9]+): (?!Error)")
 FAULT = re.compile(r"[^:\s]*:([0-9]+):[-0-9:]+: Error")
+NO_MERGE = re.compile("^nft: |: Error")  # an assertion that fails, a fault
 INTERFACE = re.compile(r"^interface ([0-9]+) (\S+)", re.M)
 
 
@@ -70,7 +71,7 @@ def merges_in(said: str) -> Iterator[Merge]:
         rules, _, merged = part.partition("into:\n\t")
         lines = [line for line in rules.split("\n") if line.startswith("RULES:")]
         places = [found for found in map(PLACE.match, lines) if found]
-        text = " ".join(itertools.takewhile(lambda line: ": Error" not in line, merged.split("\n"))).strip()
+        text = " ".join(itertools.takewhile(lambda line: not NO_MERGE.search(line), merged.split("\n"))).strip()
         if text and len(places) == len(lines) > 1:
             yield Merge([Span(int(it[1]) - 1, int(it[2]) - 1, int(it[3])) for it in places], text)
 

@@ -183,6 +183,16 @@ class Fitting(FilesCase):
     def test_interfaces_by_index(self) -> None:
         self.assertEqual(self.fitted("iif lan accept")[-1], "iif lan accept")
         self.assertEqual(self.fitted("iif ppp0 accept")[-1], 'iifname "ppp0" accept')
+        self.assertEqual(self.fitted("iif { 3, lan } accept")[-1], "iif { 3, lan } accept")
+
+    def test_numbers_of_interfaces_without_names(self) -> None:
+        """No name is known for a number beside a name that the box hasn't."""
+        for rule in ("iif { 5, ppp0 } accept", "ip ttl . iif { 1 . 5, 2-3 . ppp0 } accept",
+                     "iif vmap { 5 : accept, ppp0 : drop }"):
+            path = self.file("rules.nft", f"table ip t {{\nchain c {{\n{rule}\n}}\n}}\n")
+            changes = fit(path, Network(self.file("box.txt", BOX))).changes
+            self.assertEqual([(one.grade, one.place) for one in changes.list if one.grade is Grade.REFUSED],
+                             [(Grade.REFUSED, f"{path}:3")], rule)
 
     def test_definitions_and_sets(self) -> None:
         path = self.file("rules.nft", "define net = { 10.0.0.0/8, 10.1.2.3 }\ntable ip t {\nset s { type ipv4_addr; "

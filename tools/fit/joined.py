@@ -227,8 +227,8 @@ class JoinedKeys:
         """Indices of interfaces become names where the box isn't known to have them."""
         out = []
         for index, name in enumerate(names):
-            stays = TYPES[name] != "iface_index" or all(
-                self.draft.fitter.sets.is_index(name_of(key[index])) for key in keys
+            stays = TYPES[name] != "iface_index" or self.draft.fitter.sets.are_indices(
+                [name_of(key[index]) for key in keys], "in joined keys"
             )
             out.append(name if stays else name + "name")
         return out

@@ -313,7 +313,8 @@ class Matches:
     def by_name(self, name: str, parts: Sequence[Part]) -> tuple[str, str]:
         """`iif NAME` asks for an interface of the box; where it isn't known to be one, `iifname` asks for none."""
         kind = TYPES[name]
-        if kind != "iface_index" or all(self.draft.fitter.sets.is_index(name_of(it)) for it in parts):
+        names = [name_of(it) for it in parts]
+        if kind != "iface_index" or self.draft.fitter.sets.are_indices(names, "in a list"):
             return name, kind
         return name + "name", "ifname"
 

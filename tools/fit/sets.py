@@ -34,6 +34,7 @@ if TYPE_CHECKING:
 
 ENDING = {"timeout", "expires"}
 OWN_FLAGS = ("constant", "interval")
+NEITHER = "names and numbers of interfaces {}; --box BOX tells the names"
 
 
 class Sets:
@@ -97,11 +98,19 @@ class Sets:
         if self.key_types(found) != ["iface_index"]:
             return False
         names = [name_of(it.key[0]) for it in found.elements]
+        where = f"in the set {found.name}"
+        if None in names and not all(map(self.is_index, names)):
+            raise NotFitted(NEITHER.format(where))
+        return not self.are_indices(names, where)
+
+    def are_indices(self, names: Sequence[str | None], where: str) -> bool:
+        """Whether `iif` can stay with all of these. Numbers beside names that the box hasn't can't be said: no name is
+        known for them."""
         if all(map(self.is_index, names)):
-            return False
-        if any(it is None or is_number(it) for it in names):
-            raise NotFitted(f"names and numbers of interfaces in the set {found.name}; --box BOX tells the names")
-        return True
+            return True
+        if any(it is not None and is_number(it) for it in names):
+            raise NotFitted(NEITHER.format(where))
+        return False
 
     def is_index(self, name: str | None) -> bool:
         """Whether `iif NAME` can stay: it asks for an interface of the box."""
