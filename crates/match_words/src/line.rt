@@ -59,6 +59,16 @@ pub fn put_line(
     plant: &Plant,
 ) -> Result<(), AllocError> {
     let mut matches = Writer::new(alloc, line, plant)?;
+    put_matches(&mut matches)?;
+    text.extend_from_slice(if matches.text.is_empty() {
+        b"any packet"
+    } else {
+        &matches.text
+    })
+}
+
+/// Writes the matches of a line.
+fn put_matches(matches: &mut Writer<'_>) -> Result<(), AllocError> {
     for field in &FIRST {
         matches.put(*field)?;
     }
@@ -66,8 +76,5 @@ pub fn put_line(
     for field in &LAST {
         matches.put(*field)?;
     }
-    if matches.text.is_empty() {
-        return text.extend_from_slice(b"any packet");
-    }
-    text.extend_from_slice(&matches.text)
+    Ok(())
 }

@@ -2,27 +2,33 @@
 
 use std::alloc::AllocError;
 
-/// Appends a blank and the words: one as it is, more of them in braces.
-pub(crate) fn put_choice(text: &mut Vec<u8>, words: &[Vec<u8>]) -> Result<(), AllocError> {
-    if let [word] = words {
-        text.push(b' ')?;
-        return text.extend_from_slice(word);
-    }
-    text.extend_from_slice(b" { ")?;
-    put_joined(text, words, b", ")?;
-    text.extend_from_slice(b" }")
+/// Appends what stands before the first of so many words: a blank, and a brace before more than one.
+pub(crate) fn begin_choice(text: &mut Vec<u8>, count: usize) -> Result<(), AllocError> {
+    text.extend_from_slice(if count == 1 { b" " } else { b" { " })
+}
+
+/// Appends what stands behind the last of them.
+pub(crate) fn end_choice(text: &mut Vec<u8>, count: usize) -> Result<(), AllocError> {
+    text.extend_from_slice(if count == 1 { b"" } else { b" }" })
+}
+
+/// Appends what stands between words before the one at this place.
+pub(crate) fn put_between(
+    text: &mut Vec<u8>,
+    place: usize,
+    between: &[u8],
+) -> Result<(), AllocError> {
+    text.extend_from_slice(if place > 0 { between } else { b"" })
 }
 
 /// Appends the words with this between them.
 pub(crate) fn put_joined(
     text: &mut Vec<u8>,
-    words: &[Vec<u8>],
+    words: &[&[u8]],
     between: &[u8],
 ) -> Result<(), AllocError> {
     for (place, word) in words.iter().enumerate() {
-        if place > 0 {
-            text.extend_from_slice(between)?;
-        }
+        put_between(text, place, between)?;
         text.extend_from_slice(word)?;
     }
     Ok(())

@@ -1,5 +1,6 @@
 //! Numbers and ranges as words.
 
+use crate::lists::{begin_choice, end_choice, put_between};
 use crate::words::{ICMP_TYPES, Notation, PROTOCOLS};
 use itoa::Buffer;
 use nft_tree::ValueType;
@@ -45,12 +46,22 @@ pub(crate) fn others(
     Ok(found)
 }
 
-/// Appends a range.
-pub(crate) fn put_range(
+/// Appends ranges, one as it is, more of them in braces.
+pub(crate) fn put_ranges(
     text: &mut Vec<u8>,
     notation: Notation,
-    range: Numbers,
+    ranges: &[Numbers],
 ) -> Result<(), AllocError> {
+    begin_choice(text, ranges.len())?;
+    for (place, range) in ranges.iter().enumerate() {
+        put_between(text, place, b", ")?;
+        put_range(text, notation, *range)?;
+    }
+    end_choice(text, ranges.len())
+}
+
+/// Appends a range.
+fn put_range(text: &mut Vec<u8>, notation: Notation, range: Numbers) -> Result<(), AllocError> {
     if range.low == range.high {
         return put_number(text, notation, range.low);
     }

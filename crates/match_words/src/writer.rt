@@ -1,10 +1,10 @@
 //! The matches of a line, one after the other.
 
-use crate::lists::{put_choice, put_joined};
-use crate::numbers::{meet, others, put_range};
+use crate::lists::{begin_choice, end_choice, put_between, put_joined};
+use crate::numbers::{meet, others, put_ranges};
 use crate::protocols::{Header, header_of, protocols};
 use crate::words::{Form, Notation, Plain, STATES, form_of};
-use box_file::Plant;
+use box_file::{IfIndex, Plant};
 use fact_sets::FactField;
 use set_lines::{Line, Numbers};
 use std::alloc::{AllocError, Global};
@@ -98,23 +98,11 @@ impl<'a> Writer<'a> {
             return Ok(());
         }
         self.begin(plain.selector)?;
-        let fewer = others.len() < numbers.len();
-        if fewer {
+        if others.len() < numbers.len() {
             self.text.extend_from_slice(b" !=")?;
+            return put_ranges(&mut self.text, plain.notation, &others);
         }
-        let words = self.words_of(plain.notation, if fewer { &others } else { numbers })?;
-        put_choice(&mut self.text, &words)
-    }
-
-    /// Each range in words.
-    fn words_of(&self, notation: Notation, ranges: &[Numbers]) -> Result<Vec<Vec<u8>>, AllocError> {
-        let mut words = Vec::new(self.alloc);
-        for range in ranges {
-            let mut word = Vec::new(self.alloc);
-            put_range(&mut word, notation, *range)?;
-            words.push(word)?;
-        }
-        Ok(words)
+        put_ranges(&mut self.text, plain.notation, numbers)
     }
 
     /// Writes the names of interfaces, of which the first has this number; nothing where all of the
@@ -126,41 +114,30 @@ impl<'a> Writer<'a> {
         numbers: &[Numbers],
     ) -> Result<(), AllocError> {
         let indexes = self.plant.indexes(self.alloc)?;
-        let mut number = first;
-        let mut all = true;
-        let mut shown = Vec::new(self.alloc);
-        let mut names = Vec::new(self.alloc);
-        for index in &indexes {
-            let listed = meet(numbers, number, number);
-            number = number.saturating_add(1);
-            if listed {
-                if shown.contains(index) {
-                    continue;
-                }
-                shown.push(*index)?;
-                let mut name = vec![in self.alloc; b'"']?;
-                name.extend_from_slice(self.plant.name(*index).unwrap_or(b""))?;
-                name.push(b'"')?;
-                names.push(name)?;
-            } else {
-                all = false;
-            }
-        }
-        if all || names.is_empty() {
+        let shown = shown_of(self.alloc, &indexes, first, numbers)?;
+        if shown.is_empty() {
             return Ok(());
         }
         self.begin(selector)?;
-        put_choice(&mut self.text, &names)
+        self.put_names(&shown)
+    }
+
+    /// Writes the names of interfaces, one as it is, more of them in braces.
+    fn put_names(&mut self, indexes: &[IfIndex]) -> Result<(), AllocError> {
+        begin_choice(&mut self.text, indexes.len())?;
+        for (place, index) in indexes.iter().enumerate() {
+            put_between(&mut self.text, place, b", ")?;
+            self.text.push(b'"')?;
+            self.text
+                .extend_from_slice(self.plant.name(*index).unwrap_or(b""))?;
+            self.text.push(b'"')?;
+        }
+        end_choice(&mut self.text, indexes.len())
     }
 
     /// Writes the states of connection tracking; nothing where all are among them or none.
     fn put_states(&mut self, numbers: &[Numbers]) -> Result<(), AllocError> {
-        let mut words = Vec::new(self.alloc);
-        for state in &STATES {
-            if meet(numbers, state.from, state.to) {
-                words.push(Vec::from_slice(self.alloc, state.word)?)?;
-            }
-        }
+        let words = states_of(self.alloc, numbers)?;
         if words.is_empty() || words.len() == STATES.len() {
             return Ok(());
         }
@@ -189,34 +166,38 @@ impl<'a> Writer<'a> {
             .any(|field| numbers_of(self.line, *field).is_some())
     }
 
-    /// Writes the protocols, where no later match says them.
-    fn put_protocols(&mut self) -> Result<(), AllocError> {
-        let ports = self.has(&[FactField::SourcePort, FactField::DestinationPort]);
-        let said = match self.header {
-            Header::Tcp => ports || self.has(&FLAGS),
-            Header::Udp => ports,
+    /// Whether a later match says the protocols.
+    fn says_protocols(&self) -> bool {
+        match self.header {
+            Header::Tcp => self.has_ports() || self.has(&FLAGS),
+            Header::Udp => self.has_ports(),
             Header::Icmp => self.has(&[FactField::IcmpType]),
             Header::Ports | Header::Any => false,
-        };
-        if said {
-            return Ok(());
         }
+    }
+
+    fn has_ports(&self) -> bool {
+        self.has(&[FactField::SourcePort, FactField::DestinationPort])
+    }
+
+    /// Writes the protocols, where no later match says them, or those that aren't among them where
+    /// these are fewer.
+    fn put_protocols(&mut self) -> Result<(), AllocError> {
         let listed = self.protocols.len();
-        if listed == PROTOCOL_COUNT {
+        if listed == PROTOCOL_COUNT || self.says_protocols() {
             return Ok(());
         }
-        self.begin(if ports {
+        self.begin(if self.has_ports() {
             b"meta l4proto"
         } else {
             b"ip protocol"
         })?;
-        let mut words = self.words_of(Notation::Protocol, &self.protocols)?;
-        if listed > PROTOCOL_COUNT / 2 {
-            self.text.extend_from_slice(b" !=")?;
-            let others = others(self.alloc, &self.protocols, 0, 255)?;
-            words = self.words_of(Notation::Protocol, &others)?;
+        if listed <= PROTOCOL_COUNT / 2 {
+            return put_ranges(&mut self.text, Notation::Protocol, &self.protocols);
         }
-        put_choice(&mut self.text, &words)
+        self.text.extend_from_slice(b" !=")?;
+        let others = others(self.alloc, &self.protocols, 0, 255)?;
+        put_ranges(&mut self.text, Notation::Protocol, &others)
     }
 
     /// Writes ports, with the header that has them.
@@ -226,8 +207,7 @@ impl<'a> Writer<'a> {
             Header::Udp => b"udp ",
             Header::Ports | Header::Icmp | Header::Any => b"th ",
         };
-        let mut selector = Vec::from_slice(self.alloc, header)?;
-        selector.extend_from_slice(port)?;
+        let selector = [header, port].concat(self.alloc)?;
         self.put_numbers(
             Plain {
                 selector: &selector,
@@ -241,31 +221,94 @@ impl<'a> Writer<'a> {
 
     /// Writes the flags of TCP that the line has: among these, those that are set.
     pub(crate) fn put_flags(&mut self) -> Result<(), AllocError> {
-        let mut among = Vec::new(self.alloc);
-        let mut set = Vec::new(self.alloc);
-        for field in &FLAGS {
-            if let (Some(numbers), Form::TcpFlag(word)) = (
-                numbers_of(self.line, *field),
-                form_of(*field),
-            ) {
-                among.push(Vec::from_slice(self.alloc, word)?)?;
-                if meet(numbers, 1, 1) {
-                    set.push(Vec::from_slice(self.alloc, word)?)?;
-                }
-            }
-        }
+        let among = flags_of(self.alloc, self.line)?;
         if among.is_empty() {
             return Ok(());
         }
         self.begin(b"tcp flags & ")?;
         put_flag_group(&mut self.text, &among)?;
         self.text.extend_from_slice(b" == ")?;
+        let set = set_flags_of(self.alloc, self.line)?;
         put_flag_group(&mut self.text, &set)
     }
 }
 
+/// The interfaces of these indexes whose numbers, counted from the first one on, are listed, each
+/// once; none where all are.
+fn shown_of(
+    alloc: Global,
+    indexes: &[IfIndex],
+    first: u32,
+    numbers: &[Numbers],
+) -> Result<Vec<IfIndex>, AllocError> {
+    let mut shown = Vec::new(alloc);
+    let mut number = first;
+    let mut all = true;
+    for index in indexes {
+        if !meet(numbers, number, number) {
+            all = false;
+        } else if !shown.contains(index) {
+            shown.push(*index)?;
+        }
+        number = number.saturating_add(1);
+    }
+    if all {
+        shown.clear();
+    }
+    Ok(shown)
+}
+
+/// The words of the states that are among these numbers.
+fn states_of(alloc: Global, numbers: &[Numbers]) -> Result<Vec<&'static [u8]>, AllocError> {
+    let mut words = Vec::new(alloc);
+    for state in &STATES {
+        if meet(numbers, state.from, state.to) {
+            words.push(state.word)?;
+        }
+    }
+    Ok(words)
+}
+
+/// The words of the flags of TCP that a line has.
+fn flags_of(alloc: Global, line: &Line) -> Result<Vec<&'static [u8]>, AllocError> {
+    let mut words = Vec::new(alloc);
+    for field in &FLAGS {
+        if numbers_of(line, *field).is_some() {
+            words.push(flag_word(*field))?;
+        }
+    }
+    Ok(words)
+}
+
+/// The words of those of them that are set.
+fn set_flags_of(alloc: Global, line: &Line) -> Result<Vec<&'static [u8]>, AllocError> {
+    let mut words = Vec::new(alloc);
+    for field in &FLAGS {
+        if is_set(line, *field) {
+            words.push(flag_word(*field))?;
+        }
+    }
+    Ok(words)
+}
+
+/// Whether a line has the bit of a field as 1.
+fn is_set(line: &Line, field: FactField) -> bool {
+    match numbers_of(line, field) {
+        Some(numbers) => meet(numbers, 1, 1),
+        None => false,
+    }
+}
+
+/// The word of a flag of TCP; empty of another field.
+fn flag_word(field: FactField) -> &'static [u8] {
+    match form_of(field) {
+        Form::TcpFlag(word) => word,
+        _ => b"",
+    }
+}
+
 /// Appends flags: 0 where there are none, more than one in parentheses.
-fn put_flag_group(text: &mut Vec<u8>, words: &[Vec<u8>]) -> Result<(), AllocError> {
+fn put_flag_group(text: &mut Vec<u8>, words: &[&[u8]]) -> Result<(), AllocError> {
     match words {
         [] => text.push(b'0')?,
         [word] => text.extend_from_slice(word)?,
