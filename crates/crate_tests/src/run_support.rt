@@ -1,9 +1,8 @@
-//! Shared by the tests: a packet and its records, engines and their steps, runs with slow and
-//! failing calls, and the line of a status.
+//! Shared by the tests of runs: a packet and its records, engines and their steps, runs with slow
+//! and failing calls, and the line of a status.
 use box_file::Plant;
 use conntrack::Tracker;
 use engine::{RunFault, run};
-use hex::FromHexError;
 use nft_parser::parse;
 use pcap_io::{Counted, LinkType, Record};
 use program::Status;
@@ -48,22 +47,12 @@ pub const AT_1_5: &str = "0100000020a107001c0000001c000000";
 /// UDP from 192.168.1.10:5000 to 198.51.100.7:53, TTL 64.
 pub const PLAIN: &str = "4500001c0001000040118ee3c0a8010ac63364071388003500080000";
 
-/// The bytes of the concatenated hexadecimal strings.
-pub fn bytes(alloc: Global, parts: &[&str]) -> Result<Vec<u8>, FromHexError> {
-    hex::decode(alloc, parts.concat(alloc)?)
-}
-
 /// Whether the status has this line.
 pub fn shows(alloc: Global, status: Status, line: &str) -> bool {
     match format!(in alloc; "{status}") {
         Ok(text) => text.strip_prefix("nftrun: ") == Some(line),
         Err(_) => false,
     }
-}
-
-/// Fails with the row's number if it isn't right.
-pub fn check_row<R: Abort>(rt: &R, row: usize, is_right: bool) {
-    assert!(rt; is_right, "row {row}");
 }
 
 /// A random source that leaves bytes as they are, so that all runs have the same keys.

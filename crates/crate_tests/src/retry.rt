@@ -2,7 +2,8 @@
 //! runs this test over and over, and refuses each request of its steps in turn.
 ghost use Rattle.std.specs.Prelude.{◌≡◌, ◌<◌, IsSome, IsTrue, false};
 
-use crate::support::{AT_1_5, BOX, HEADER, PLAIN, ROUTER, bytes, no_failures, run_over, started};
+use crate::run_support::{AT_1_5, BOX, HEADER, PLAIN, ROUTER, no_failures, run_over, started};
+use crate::support::bytes;
 use aged_tracker::AgedTracker;
 use conntrack::Connection;
 use nft_tree::Ruleset;
@@ -322,7 +323,7 @@ fn packets_and_report<R: Abort + AllocGlobal + Files>(
 
 /// They are those of `engine::run`.
 fn replays<R: Abort + AllocGlobal + Files>(rt: &R, row: &Row) {
-    let capture = bytes(rt.alloc(), row.capture).expect(rt, "a capture");
+    let capture = bytes(rt, row.capture);
     let whole = run_over(
         rt.alloc(),
         row.rules,

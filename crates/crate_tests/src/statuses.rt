@@ -1,6 +1,7 @@
 //! Statuses that no run of the built program shows: those without a line, that of more records than
 //! a test can have, and that of words that the system refuses.
-use crate::support::{check_row, shows};
+use crate::run_support::shows;
+use crate::support::check_row;
 use pcap_io::CaptureFault;
 use program::Status;
 use std::io;

@@ -1,5 +1,6 @@
 //! The connections that an engine lists, with the plain list tracker and with the aged one.
-use crate::support::{ROUTER, bytes, check_row, started, take};
+use crate::run_support::{ROUTER, started, take};
+use crate::support::{bytes, check_row};
 use aged_tracker::AgedTracker;
 use conntrack::{Connection, ListTracker, Tracker};
 use ip_headers::{Endpoint, Kind, Mapping, Tuple};
@@ -137,7 +138,7 @@ static LISTED: [(&[Sent], &[Masqueraded]); 4] = [
 /// Steps the record of a packet.
 fn take_packet<R: Abort + AllocGlobal, T: Tracker>(rt: &R, engine: &mut Engine<T>, sent: &Sent) {
     let (moment, link, packet) = *sent;
-    let bytes = bytes(rt.alloc(), &[link, packet]).expect(rt, "a packet");
+    let bytes = bytes(rt, &[link, packet]);
     take(rt, engine, moment, LinkType::Sll2, &bytes);
 }
 

@@ -2,7 +2,7 @@ use Rattle.std.proofs.Common.{None}
 use Rattle.conntrack.specs.TableEntries.{IsNoneLater}
 use Rattle.conntrack.specs.Updates.{Confirmed}
 use Rattle.conntrack.specs.declared.belonging.Belonging.TheVariants.{NotFound}
-use Rattle.run_tests.proofs.slot_counts.begin.Goals as goal
+use Rattle.crate_tests.proofs.slot_counts.begin.Goals as goal
 
 pub returns-in-Ok : goal.returns-in-Ok
 returns-in-Ok c =

@@ -1,6 +1,6 @@
 //! The lists of an engine that holds as many connections and mappings as a busy box.
 use crate::connection_lists::{AT_THE_LIMIT, NAME_SERVER, OTHER, masqueraded};
-use crate::support::{ROUTER, started, take};
+use crate::run_support::{ROUTER, started, take};
 use aged_tracker::AgedTracker;
 use conntrack::Connection;
 use ip_headers::{Endpoint, Kind};

@@ -1,7 +1,7 @@
 use Rattle.std.proofs.Common.{None}
 use Rattle.conntrack.specs.Updates.{Confirmed}
 use Rattle.conntrack.specs.declared.belonging.Belonging.TheVariants.{Found}
-use Rattle.run_tests.proofs.slot_counts.touch.Goals as goal
+use Rattle.crate_tests.proofs.slot_counts.touch.Goals as goal
 
 pub returns : goal.returns
 returns c =

@@ -1,5 +1,6 @@
 //! The statements that an engine counts, record by record.
-use crate::support::{bytes, check_row, started, take};
+use crate::run_support::{started, take};
+use crate::support::{bytes, check_row};
 use conntrack::ListTracker;
 use pcap_io::LinkType;
 use std::process::Abort;
@@ -65,7 +66,7 @@ fn started_by<R: Abort + AllocGlobal>(
     packet: &str,
 ) -> u64 {
     let before = engine.ticks();
-    let bytes = bytes(rt.alloc(), &[packet]).expect(rt, "a packet");
+    let bytes = bytes(rt, &[packet]);
     take(rt, engine, 0, LinkType::Raw, &bytes);
     engine.ticks().saturating_sub(before)
 }

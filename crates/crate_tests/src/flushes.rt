@@ -1,8 +1,7 @@
 //! A flush that fails stops the run. A file's flush never fails, so the built program can't show
 //! it; `tests/refuse/test-refuse` refuses that program's reads and writes.
-use crate::support::{
-    AT_1_5, BOX, DeviceSettings, HEADER, PLAIN, RunResult, bytes, run_over, shows,
-};
+use crate::run_support::{AT_1_5, BOX, DeviceSettings, HEADER, PLAIN, RunResult, run_over, shows};
+use crate::support::bytes;
 use std::alloc::Global;
 use std::process::Abort;
 
@@ -43,7 +42,7 @@ fn stops_at_report<R: Abort + AllocGlobal>(rt: &R, capture: &[u8], whole: &RunRe
 
 #[test]
 fn a_flush_that_fails_stops_the_run(rt: HostRuntime) {
-    let capture = bytes(rt.alloc(), &[HEADER, AT_1_5, PLAIN]).expect(&rt, "a capture");
+    let capture = bytes(&rt, &[HEADER, AT_1_5, PLAIN]);
     let whole = run_of(rt.alloc(), &capture, [usize::MAX; 3]);
     assert!(&rt; has_made(rt.alloc(), &whole, "done", [0, 0, 0], [2, 3, 2]));
     stops_at_packets(&rt, &capture, &whole);
