@@ -3,6 +3,7 @@ ghost use Rattle.std.specs.Prelude.{◌≡◌, ◌<◌, ℕ, length, IfSome, Lis
 ghost use Rattle.packet_sets.specs.Sets.{branch_at};
 
 use crate::branch::Branch;
+use crate::places::place_near;
 use std::alloc::{AllocError, Global};
 
 /// A table by hash: the last node of each bucket, and for each node the one before it in its bucket,
@@ -16,7 +17,7 @@ pub(crate) struct Index {
 /// The first number of buckets, a power of two, as all later ones.
 const BUCKETS: usize = 4096;
 
-/// The bucket of a node. No division: it would take longer than the rest.
+/// The bucket of a node.
 fn bucket_of(branch: Branch, buckets: usize) -> usize
     requires { 0 < buckets }
     ensures { result < buckets }
@@ -24,8 +25,7 @@ fn bucket_of(branch: Branch, buckets: usize) -> usize
     let bit = u64::from(branch.bit).wrapping_mul(0x9e37_79b9_7f4a_7c15);
     let low = u64::from(branch.low).wrapping_mul(0xc2b2_ae3d_27d4_eb4f);
     let high = u64::from(branch.high).wrapping_mul(0x1656_67b1_9e37_79f9);
-    let mixed = bit ^ low ^ high;
-    ((mixed ^ (mixed >> 29)) & (buckets as u64 - 1)) as usize
+    place_near(branch.low, branch.high, bit ^ low ^ high, buckets)
 }
 
 impl Index {

@@ -14,6 +14,7 @@ mod memo;
 mod nodes;
 mod operation;
 mod packet_set;
+mod places;
 mod split;
 
 pub use diagrams::Diagrams;

@@ -5,6 +5,7 @@ ghost use Rattle.packet_sets.specs.steps.Nodes.{AreNodes};
 ghost use Rattle.packet_sets.specs.steps.Operations.{AreRight, IsResult, IsRight};
 
 use crate::operation::Operation;
+use crate::places::place_near;
 use std::alloc::{AllocError, Global};
 
 /// What an operation made of two nodes.
@@ -24,10 +25,11 @@ const BEGIN: Entry = Entry {
     result: 0,
 };
 
-/// The least and the greatest size, powers of two, as those between.
+/// The least and the greatest size, powers of two, as those between. The greatest takes 64 MiB: nearly
+/// all results of a walk through 16,000 rules are still there when the same ones are walked again.
 const LEAST: usize = 4096;
 
-const GREATEST: usize = 0x10_0000;
+const GREATEST: usize = 0x40_0000;
 
 /// A table by hash of results. Each place has the last one that was put there.
 #[derive(Drop)]
@@ -47,8 +49,7 @@ fn place_of(operation: Operation, left: u32, right: u32, places: usize) -> usize
     };
     let first = u64::from(left).wrapping_mul(0x9e37_79b9_7f4a_7c15);
     let second = u64::from(right).wrapping_mul(0xc2b2_ae3d_27d4_eb4f);
-    let mixed = first ^ second ^ salt;
-    ((mixed ^ (mixed >> 29)) & (places as u64 - 1)) as usize
+    place_near(left, right, first ^ second ^ salt, places)
 }
 
 impl Memo {
@@ -92,8 +93,7 @@ impl Memo {
         self.entries[place] = entry;
     }
 
-    /// Makes room for the results of more nodes, and forgets all. It leaves the memo where memory is
-    /// refused.
+    /// Makes room for the results of more nodes. It leaves the memo where memory is refused.
     pub(crate) fn grow(&mut self, alloc: Global, count: usize) -> Result<(), AllocError>
         ensures { (nodes : List Branch) → AreNodes nodes → AreRight nodes self.old.entries.items
             → AreRight nodes self.new.entries.items }
@@ -102,7 +102,13 @@ impl Memo {
         if count <= places || places >= GREATEST {
             return Ok(());
         }
-        self.entries = vec![in alloc; BEGIN; places * 2]?;
+        let mut larger = Memo {
+            entries: vec![in alloc; BEGIN; places * 2]?,
+        };
+        for entry in &self.entries {
+            larger.keep(*entry);
+        }
+        *self = larger;
         Ok(())
     }
 }
