@@ -7,7 +7,7 @@ use Rattle.packet_sets.specs.Sets.{DiagramsView, holds}
 use Rattle.fact_sets.specs.declared.cases.Case.{Case}
 use Rattle.fact_sets.specs.declared.written.Written.{Written}
 use Rattle.fact_sets.specs.declared.written.MarkSource.TheVariants as sources
-use Rattle.fact_sets.specs.Effects.{AreCases}
+use Rattle.fact_sets.specs.Cases.{AreCases}
 use Rattle.rule_sets.specs.declared.ends.End.{End}
 use Rattle.chain_sets.specs.declared.outcomes.ChainEnd.{ChainEnd}
 use Rattle.chain_sets.specs.declared.outcomes.Exit.{Exit}

@@ -6,7 +6,7 @@ use Rattle.list_laws.specs.Decisions.{Contains-cases, Contains-none}
 use Rattle.packet_sets.specs.declared.packet_set.PacketSet.{PacketSet}
 use Rattle.packet_sets.specs.Sets.{DiagramsView, Keeps, Means, holds}
 use Rattle.fact_sets.specs.declared.cases.Case.{Case}
-use Rattle.fact_sets.specs.Effects.{AreCases}
+use Rattle.fact_sets.specs.Cases.{AreCases}
 use Rattle.chain_sets.specs.steps.Merging.{HavePackets, some_outcome}
 use Rattle.chain_sets.proofs.Cases.{some-first}
 

@@ -14,7 +14,7 @@ use Rattle.rule_meaning.specs.Runs.{Program}
 use Rattle.fact_sets.specs.declared.cases.Case.{Case}
 use Rattle.fact_sets.specs.declared.readings.Reader.{Reader}
 use Rattle.fact_sets.specs.declared.written.Written.{Written}
-use Rattle.fact_sets.specs.Effects.{AreCases, seen}
+use Rattle.fact_sets.specs.Cases.{AreCases, seen}
 use Rattle.fact_sets.specs.Facts.{facts_of}
 use Rattle.rule_sets.specs.declared.ends.End.{End}
 use Rattle.rule_sets.specs.Ends.{AddsEnds, RuleEnd, end_for, outcomes_for, rule_end}

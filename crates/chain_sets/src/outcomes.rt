@@ -5,6 +5,7 @@ ghost use Rattle.chain_sets.specs.steps.Outcomes.{back_from, case_if, course_by,
 ghost use Rattle.chain_sets.specs.steps.Merging.{with_outcome};
 
 use crate::merging::Merge;
+use chain_ways::{RuleExit, rule_exit};
 use fact_sets::{Case, Written};
 use nft_tree::RuleNo;
 use packet_sets::PacketSet;
@@ -291,15 +292,11 @@ pub(crate) fn course_of(rule: RuleNo, turn: Turn) -> Course
     ensures { result ≡ course_by rule turn.verdict turn.written }
 {
     let written = turn.written;
-    match turn.verdict {
-        None | Some(RuleVerdict::Continue) => Course::To(Exit::Next(written)),
-        Some(RuleVerdict::Accept) => over(rule, HookVerdict::Accepted, written),
-        Some(RuleVerdict::Drop) => over(rule, HookVerdict::Dropped, written),
-        Some(RuleVerdict::Translate(action)) => {
-            over(rule, HookVerdict::Translated(action), written)
-        }
-        Some(RuleVerdict::Return) => at_end(written),
-        Some(RuleVerdict::Jump(chain)) => Course::Jump(chain),
-        Some(RuleVerdict::Goto(chain)) => Course::Goto(chain),
+    match rule_exit(turn.verdict) {
+        RuleExit::Next => Course::To(Exit::Next(written)),
+        RuleExit::End => at_end(written),
+        RuleExit::Over(verdict) => over(rule, verdict, written),
+        RuleExit::Jump(chain) => Course::Jump(chain),
+        RuleExit::Goto(chain) => Course::Goto(chain),
     }
 }

@@ -7,7 +7,7 @@ ghost use Rattle.rule_types.specs.Types.{statement_mismatches};
 ghost use Rattle.rule_values.specs.Faults.{statement_out_of_range};
 ghost use Rattle.rule_meaning.specs.Runs.{table_program};
 ghost use Rattle.lowering.specs.Lowered.{Extends, HasDeclared};
-ghost use Rattle.fact_sets.specs.Effects.{AreCases};
+ghost use Rattle.fact_sets.specs.Cases.{AreCases};
 ghost use Rattle.packet_sets.specs.declared.fault.SetError.TheVariants.{TooLarge};
 ghost use Rattle.chain_sets.specs.RuleSets.{sets_of};
 ghost use Rattle.chain_sets.specs.steps.Looks.{AreRuleSets};

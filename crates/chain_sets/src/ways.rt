@@ -9,7 +9,7 @@ ghost use Rattle.lowering.specs.Lowered.{Extends, HasDeclared};
 ghost use Rattle.chain_ways.specs.Nesting.{NestsOver};
 ghost use Rattle.chain_ways.specs.Ways.{way};
 ghost use Rattle.chain_sets.specs.declared.fault.WalkError.TheVariants.{TooDeep, TooLarge};
-ghost use Rattle.fact_sets.specs.Effects.{AreCases};
+ghost use Rattle.fact_sets.specs.Cases.{AreCases};
 ghost use Rattle.chain_sets.specs.ChainSets.{AreOnWays, AreOnWaysFrom};
 ghost use Rattle.chain_sets.specs.RuleSets.{sets_of};
 

@@ -2,3 +2,4 @@ pub mod Ways
 pub mod BaseWays
 pub mod Laws
 pub mod Nesting
+pub mod Exits

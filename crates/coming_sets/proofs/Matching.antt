@@ -13,10 +13,11 @@ use Rattle.rule_meaning.specs.declared.facts.CtFacts.{CtFacts}
 use Rattle.rule_meaning.specs.declared.facts.CtFacts.TheVariants as ct
 use Rattle.rule_meaning.specs.Statements.{StatementEffect, fail, passes_if, sets_notrack, with_value, writes_connection}
 use Rattle.fact_sets.specs.declared.cases.Case.{Case}
-use Rattle.fact_sets.specs.declared.cases.Outcome.{Outcome}
-use Rattle.fact_sets.specs.declared.cases.Outcome.TheVariants as outcomes
+use Rattle.action_cases.specs.declared.cases.Outcome.{Outcome}
+use Rattle.action_cases.specs.declared.cases.Outcome.TheVariants as outcomes
 use Rattle.fact_sets.specs.declared.readings.Reader.{Reader}
-use Rattle.fact_sets.specs.Effects.{Decides, outcome_effect, picked, seen}
+use Rattle.fact_sets.specs.Cases.{picked, seen}
+use Rattle.action_cases.specs.Effects.{Decides, outcome_effect}
 use Rattle.fact_sets.specs.Facts.{mark_number}
 use Rattle.fact_sets.proofs.SetLaws.{and_ok, means_kept}
 use Rattle.rule_sets.specs.Parts.{AreParts}

@@ -2,11 +2,12 @@
 ghost use Rattle.std.specs.Prelude.{◌≡◌, ◌≤◌, ◌&&◌, cond, length, not, IfOk, IfErr};
 ghost use Rattle.packet_sets.specs.Sets.{IsSet, Keeps, Means, holds};
 ghost use Rattle.packet_sets.specs.declared.fault.SetError.TheVariants.{TooLarge};
-ghost use Rattle.fact_sets.specs.Effects.{seen};
+ghost use Rattle.fact_sets.specs.Cases.{seen};
 ghost use Rattle.coming_sets.specs.Coming.{can_come, has_headers, has_length, has_output, has_state, has_value, is_at, is_field_of, is_packet, matches};
 ghost use Rattle.coming_sets.specs.Bases.{base_chain};
 
 use crate::base::Base;
+use action_cases::action_cases;
 use fact_sets::Reader;
 use nft_tree::{ChainKind, Hook, Operator, Selector};
 use packet_sets::{Diagrams, PacketSet, SetError};
@@ -43,7 +44,7 @@ pub(crate) fn matching(
         numbers: Vec::new(alloc),
     };
     let action = Action::Compare(selector, operator, range);
-    let cases = reader.cases(alloc, diagrams, &lookups, &action)?;
+    let cases = action_cases(reader, alloc, diagrams, &lookups, &action)?;
     diagrams.ends();
     let parts = sorted(alloc, diagrams, PacketSet::ALL, &cases)?;
     diagrams.not(parts.rest)

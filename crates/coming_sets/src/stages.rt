@@ -2,7 +2,7 @@
 ghost use Rattle.std.specs.Prelude.{◌≡◌, ◌≤◌, ◌&&◌, length, IfOk, IfErr};
 ghost use Rattle.packet_sets.specs.Sets.{Keeps, Means};
 ghost use Rattle.packet_sets.specs.declared.fault.SetError.TheVariants.{TooLarge};
-ghost use Rattle.fact_sets.specs.Effects.{seen};
+ghost use Rattle.fact_sets.specs.Cases.{seen};
 ghost use Rattle.coming_sets.specs.Coming.{can_come_to, has_output, has_state_in, hook_of};
 
 use crate::can_come::{NEW, matching, output, packets, valueless};

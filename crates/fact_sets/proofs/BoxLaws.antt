@@ -1,10 +1,8 @@
--- Facts of a box from bits, and what statements leave of them.
+-- Facts of a box from bits.
 use Rattle.std.proofs.Common.{◌≡◌, ◌^◌, ℕ, ◌<◌, ◌+◌, List, [], ◌∷◌, Bool, true, false, cond, refl, ap, sym, arith, lit<, Option, Some, None, IfSome}
-use Rattle.std.proofs.lemmas.Bool.Decides.{nat_tests}
 use Rattle.packet_sets.specs.Sets.{field_value}
 use Rattle.ip_headers.specs.declared.transport.Transport.{Transport}
 use Rattle.ip_headers.specs.declared.transport.Transport.TheVariants.{Tcp, Udp, Icmp, Other}
-use Rattle.nft_tree.specs.declared.statement.MarkField.TheVariants as marks
 use Rattle.rule_meaning.specs.declared.facts.Facts.{Facts}
 use Rattle.rule_meaning.specs.declared.facts.Interface.{Interface}
 use Rattle.rule_meaning.specs.declared.facts.CtFacts.{CtFacts}
@@ -14,66 +12,11 @@ use Rattle.rule_meaning.specs.declared.facts.CtState.{CtState}
 use Rattle.rule_meaning.specs.declared.facts.CtState.TheVariants as states
 use Rattle.ip_headers.specs.declared.tuple.Direction.{Direction}
 use Rattle.ip_headers.specs.declared.tuple.Direction.TheVariants as directions
-use Rattle.rule_meaning.specs.Statements.{sets_notrack, writes_connection}
-use Rattle.fact_sets.specs.declared.cases.Outcome.{Outcome}
-use Rattle.fact_sets.specs.declared.cases.Outcome.TheVariants as outcomes
-use Rattle.fact_sets.specs.declared.readings.Reader.{Reader}
-use Rattle.fact_sets.specs.declared.written.MarkSource.{MarkSource}
 use Rattle.fact_sets.specs.declared.written.Written.{Written}
-use Rattle.fact_sets.specs.Boxes.{HasBits, IsCt, IsInterface, IsOfBox, IsTransport, Leaves, NOTHING, written_after}
-use Rattle.fact_sets.specs.Effects.{outcome_effect, seen}
-use Rattle.fact_sets.specs.Facts.{CT_MARK, DESTINATION_PORT, FLAGS, ICMP_TYPE, SOURCE_PORT, TRACKING}
+use Rattle.fact_sets.specs.Boxes.{HasBits, IsCt, IsInterface, IsOfBox, IsTransport, NOTHING}
+use Rattle.fact_sets.specs.Facts.{CT_MARK, DESTINATION_PORT, FLAGS, ICMP_TYPE, SOURCE_PORT}
 use Rattle.fact_sets.specs.Facts.{ct_at, facts_of, interface_at, mark_number, number_in, transport_at}
 use Rattle.fact_sets.proofs.BitLaws.{FitAll, HasAll, bits_of, has_all}
-
--- ---- what statements leave
-
-marked : CtFacts → ℕ → CtFacts
-marked (ct.Known c) n = ct.Known (record c { mark = n })
-marked x n = x
-
-connection-marked : (w : Written) (source : MarkSource) (n : ℕ) (f : ℕ → Bool)
-    → marked (ct_at w n f) (mark_number source f) ≡ ct_at (record w { connection = source }) n f
-unfolding marked
-connection-marked w source n f = grind (arith, nat_tests)
-
-connection-left : (f : Facts) (x : CtFacts) (n : ℕ) → f.ct ≡ x → Leaves (writes_connection f x n) f (record f { ct = marked x n })
-unfolding marked
-connection-left f ct.NotLookedUp n e = rw (← e) refl
-connection-left f ct.Notrack n e = rw (← e) refl
-connection-left f ct.Untracked n e = rw (← e) refl
-connection-left f ct.Invalid n e = rw (← e) refl
-connection-left f (ct.Known c) n e = refl
-
-untracked : CtFacts → CtFacts
-untracked ct.NotLookedUp = ct.Notrack
-untracked x = x
-
-lookup-skipped : (w : Written) (n : ℕ) (f : ℕ → Bool) → untracked (ct_at w n f) ≡ ct_at (record w { untracked = true }) n f
-unfolding untracked
-lookup-skipped w n f = grind (arith, nat_tests)
-
-notrack-left : (f : Facts) (x : CtFacts) → f.ct ≡ x → Leaves (sets_notrack f x) f (record f { ct = untracked x })
-unfolding untracked
-notrack-left f ct.NotLookedUp e = refl
-notrack-left f ct.Notrack e = rw (← e) refl
-notrack-left f ct.Untracked e = rw (← e) refl
-notrack-left f ct.Invalid e = rw (← e) refl
-notrack-left f (ct.Known c) e = rw (← e) refl
-
-pub kept : (r : Reader) (o : Outcome) (f : ℕ → Bool)
-    → Leaves (outcome_effect r o f) (seen r f) (facts_of r.interfaces.now (written_after o r.written) f)
-unfolding facts_of
-kept r outcomes.Passes f = refl
-kept r (outcomes.Counts position) f = refl
-kept r (outcomes.Logs position) f = refl
-kept r outcomes.Untracks f =
-    rw (← lookup-skipped r.written (number_in TRACKING f) f) (notrack-left (seen r f) (ct_at r.written (number_in TRACKING f) f) refl)
-kept r (outcomes.Marks marks.Meta source) f = refl
-kept r (outcomes.Marks marks.Ct source) f =
-    rw (← connection-marked r.written source (number_in TRACKING f) f) (connection-left (seen r f) (ct_at r.written (number_in TRACKING f) f)
-    (mark_number source f) refl)
-kept r (outcomes.Gives verdict) f = tt
 
 -- ---- the numbers that facts write
 

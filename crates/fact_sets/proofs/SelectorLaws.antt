@@ -1,6 +1,6 @@
 -- What each selector reads of a packet's bits.
 use Rattle.std.proofs.Common.{◌≡◌, ◌∙◌, ◌^◌, ◌==◌, ◌&&◌, nat_le, ℕ, ◌<◌, ◌≤◌, ◌+◌, Bool, true, false}
-use Rattle.std.proofs.Common.{cond, refl, ap, arith, Some, None, sym, subst, lit<, if◌then◌else◌, List, [], ◌∷◌}
+use Rattle.std.proofs.Common.{cond, refl, ap, arith, Some, None, sym, subst, lit<, if◌then◌else◌, IfSome}
 use Rattle.std.proofs.lemmas.Bool.Decides.{nat_tests}
 use Rattle.std.proofs.Math.Nat.{pow-le-pow_right}
 use Rattle.std.specs.Option.{option_map}
@@ -19,13 +19,12 @@ use Rattle.fact_sets.specs.declared.readings.Reader.{Reader}
 use Rattle.fact_sets.specs.declared.written.MarkSource.{MarkSource}
 use Rattle.fact_sets.specs.declared.written.MarkSource.TheVariants as sources
 use Rattle.fact_sets.specs.declared.written.Written.{Written}
-use Rattle.fact_sets.specs.Effects.{seen}
+use Rattle.fact_sets.specs.Cases.{seen}
 use Rattle.fact_sets.specs.Facts.{DESTINATION, DESTINATION_PORT, FLAGS, HAS_OUTPUT, DIRECTION, ICMP_TYPE, INPUT, LENGTH}
 use Rattle.fact_sets.specs.Facts.{OUTPUT, PROTOCOL, SOURCE, SOURCE_PORT, STATUS, TRACKING, TRANSPORT, TTL, ct_at}
 use Rattle.fact_sets.specs.Facts.{facts_of, interface_at, mark_number, number_in, state_at, transport_at}
 use Rattle.fact_sets.specs.steps.Readings.{IsField, IsNarrow, field_of, is_present, mark_field, mark_meant, state_meant, status_meant, value_meant}
 use Rattle.fact_sets.proofs.FieldNumbers.{value_less}
-use Rattle.fact_sets.proofs.JoinedLaws.{Below, Fit, parts_of}
 
 -- ---- by the codes of transports and states
 
@@ -191,7 +190,7 @@ status-less f =
     let l : number_in STATUS f < 2 ^ 3 = value_less 3 27 f in
     omega arith
 
-pub value_fits : (r : Reader) (s : Selector) (f : ℕ → Bool) → IsNarrow r → value_meant r s (number_in (field_of r.written s) f) < 2 ^ selector_width s
+value_fits : (r : Reader) (s : Selector) (f : ℕ → Bool) → IsNarrow r → value_meant r s (number_in (field_of r.written s) f) < 2 ^ selector_width s
 value_fits r selectors.IpSource f h = field-less SOURCE 32 f (omega arith)
 value_fits r selectors.IpDestination f h = field-less DESTINATION 32 f (omega arith)
 value_fits r selectors.IpProtocol f h = field-less PROTOCOL 8 f (omega arith)
@@ -220,24 +219,9 @@ value_fits r selectors.MetaFamily f h = lit< tt
 value_fits r selectors.CtState f h = state-less (number_in TRACKING f)
 value_fits r selectors.CtStatus f h = status-less f
 
-below-there : (b : Bool) (n k : ℕ) → n < k → Below (cond b (Some n) None) k
-below-there b n k h = elim b as (λ v. Below (cond v (Some n) None) k) [ true ↦ h | false ↦ tt ]
+less-there : (b : Bool) (n k : ℕ) → n < k → IfSome (cond b (Some n) None) (λ x. x < k)
+less-there b n k h = elim b as (λ v. IfSome (cond v (Some n) None) (λ x. x < k)) [ true ↦ h | false ↦ tt ]
 
-pub fit : (r : Reader) (ss : List Selector) (f : ℕ → Bool) → IsNarrow r → Fit (parts_of ss (seen r f))
-fit r [] f h = tt
-fit r (s ∷ ss) f h = (
-  subst (λ o. Below o (2 ^ selector_width s)) (sym (reads r s f)) (below-there (is_present s f) (value_meant r s (number_in (field_of r.written s) f))
-      (2 ^ selector_width s) (value_fits r s f h)),
-  fit r ss f h,
-)
-
--- ---- marks
-
-pub meta_mark : (r : Reader) (f : ℕ → Bool) → value selectors.MetaMark (seen r f) ≡ Some (mark_number r.written.packet f)
-unfolding facts_of
-meta_mark r f = refl
-
-pub ct_mark : (r : Reader) (f : ℕ → Bool) → value selectors.CtMark (seen r f) ≡ cond (is_present selectors.CtMark f)
-    (Some (mark_number r.written.connection f)) None
-unfolding facts_of
-ct_mark r f = connection-mark r.written (number_in TRACKING f) f
+pub fits : (r : Reader) (s : Selector) (f : ℕ → Bool) → IsNarrow r → IfSome (value s (seen r f)) (λ n. n < 2 ^ selector_width s)
+fits r s f h = subst (λ o. IfSome o (λ n. n < 2 ^ selector_width s)) (sym (reads r s f)) (less-there (is_present s f)
+    (value_meant r s (number_in (field_of r.written s) f)) (2 ^ selector_width s) (value_fits r s f h))

@@ -2,17 +2,13 @@
 use Rattle.std.specs.Prelude.{◌≡◌, ℕ, ◌^◌, ◌<◌, Bool, true, false, List, IfSome}
 use Rattle.ip_headers.specs.declared.transport.Transport.{Transport}
 use Rattle.ip_headers.specs.declared.transport.Transport.TheVariants.{Tcp, Udp, Icmp, Other}
-use Rattle.nft_tree.specs.declared.statement.MarkField.TheVariants as marks
 use Rattle.rule_meaning.specs.declared.facts.Facts.{Facts}
 use Rattle.rule_meaning.specs.declared.facts.Packet.{Packet}
 use Rattle.rule_meaning.specs.declared.facts.Interface.{Interface}
 use Rattle.rule_meaning.specs.declared.facts.CtFacts.{CtFacts}
 use Rattle.rule_meaning.specs.declared.facts.CtFacts.TheVariants as ct
-use Rattle.rule_meaning.specs.Statements.{StatementEffect, pass, fail, note, give}
 use Rattle.fact_sets.specs.declared.written.MarkSource.TheVariants as sources
 use Rattle.fact_sets.specs.declared.written.Written.{Written}
-use Rattle.fact_sets.specs.declared.cases.Outcome.{Outcome}
-use Rattle.fact_sets.specs.declared.cases.Outcome.TheVariants as outcomes
 use Rattle.fact_sets.specs.Facts.{facts_of, interface_at}
 
 -- ---- what a box can see
@@ -54,19 +50,3 @@ NOTHING = record { packet = sources.Packet; connection = sources.Connection; unt
 -- some packet's bits write the facts
 abbrev pub HasBits : List Interface → Facts → Type 0
 HasBits interfaces f = (packet : ℕ → Bool) × (facts_of interfaces NOTHING packet ≡ f)
-
--- ---- what statements write
-
--- what rules have written after a statement
-abbrev pub written_after : Outcome → Written → Written
-written_after (outcomes.Marks marks.Meta source) w = record w { packet = source }
-written_after (outcomes.Marks marks.Ct source) w = record w { connection = source }
-written_after outcomes.Untracks w = record w { untracked = true }
-written_after _ w = w
-
--- where a statement goes on, it leaves these facts
-abbrev pub Leaves : StatementEffect → Facts → Facts → Type 0
-Leaves pass before after = before ≡ after
-Leaves (note event facts) before after = facts ≡ after
-Leaves fail before after = Unit {0}
-Leaves (give verdict) before after = Unit {0}

@@ -1,4 +1,5 @@
 pub mod Boxes
-pub mod Effects
+pub mod Cases
 pub mod Facts
+pub mod Tests
 pub mod steps

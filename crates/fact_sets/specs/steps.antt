@@ -1,4 +1,3 @@
 -- What contracts of private functions cite; public ones cite none of it.
 pub mod Interfaces
-pub mod Picking
 pub mod Readings

@@ -3,15 +3,18 @@ ghost use Rattle.std.specs.Prelude.{◌≡◌, ◌<◌, ◌≤◌, ◌==◌, ◌
 ghost use Rattle.packet_sets.specs.Sets.{Keeps, Means};
 ghost use Rattle.packet_sets.specs.declared.fault.SetError.TheVariants.{TooLarge};
 ghost use Rattle.fact_sets.specs.Facts.{number_in};
-ghost use Rattle.fact_sets.specs.steps.Readings.{IsField, meant, test_passes};
+ghost use Rattle.fact_sets.specs.Tests.{test_passes};
+ghost use Rattle.fact_sets.specs.steps.Readings.{IsField, meant};
 
 use crate::numbers::Numbers;
 use packet_sets::{Diagrams, Field, PacketSet, SetError};
 
 /// A test of a number.
 #[derive(Clone, Copy)]
-pub(crate) enum Test {
+pub enum Test {
+    /// At least this.
     AtLeast(u128),
+    /// At most this.
     AtMost(u128),
     /// From the first to the second, both included.
     Within(u128, u128),
@@ -41,7 +44,7 @@ fn fits(number: u128, width: u32) -> bool
 }
 
 /// All packets or none.
-pub(crate) fn fixed(diagrams: &Diagrams, all: bool) -> PacketSet
+pub fn fixed(diagrams: &Diagrams, all: bool) -> PacketSet
     ensures { Means diagrams.now result (λ packet. all) }
 {
     diagrams.ends();
@@ -143,6 +146,26 @@ fn listed(
     Ok(set)
 }
 
+/// The packets whose field has a number that passes the test.
+fn plain(diagrams: &mut Diagrams, field: Field, test: Test) -> Result<PacketSet, SetError>
+    requires { IsField field }
+    ensures keeps { Keeps diagrams.old diagrams.new }
+    ensures value { IfOk result (λ set. Means diagrams.new set
+        (λ packet. test_passes test (number_in field packet))) }
+    ensures too_large { IfErr result (λ e. e ≡ TooLarge
+        → diagrams.new.limit ≤ length diagrams.new.nodes) }
+{
+    match test {
+        Test::AtLeast(low) => at_least(diagrams, field, low),
+        Test::AtMost(high) => at_most(diagrams, field, high),
+        Test::Within(low, high) => within(diagrams, field, low, high),
+        Test::Bits(0, wanted) => Ok(fixed(diagrams, wanted == 0)),
+        Test::Bits(mask, wanted) => {
+            listed(diagrams, field, Numbers::Plain, Test::Bits(mask, wanted))
+        }
+    }
+}
+
 /// The packets whose field's number stands for one that passes the test.
 pub(crate) fn passing(
     diagrams: &mut Diagrams,
@@ -157,25 +180,8 @@ pub(crate) fn passing(
     ensures too_large { IfErr result (λ e. e ≡ TooLarge
         → diagrams.new.limit ≤ length diagrams.new.nodes) }
 {
-    match test {
-        Test::AtLeast(low) => match numbers {
-            Numbers::Plain => at_least(diagrams, field, low),
-            _ => listed(diagrams, field, numbers, Test::AtLeast(low)),
-        },
-        Test::AtMost(high) => match numbers {
-            Numbers::Plain => at_most(diagrams, field, high),
-            _ => listed(diagrams, field, numbers, Test::AtMost(high)),
-        },
-        Test::Within(low, high) => match numbers {
-            Numbers::Plain => within(diagrams, field, low, high),
-            _ => listed(diagrams, field, numbers, Test::Within(low, high)),
-        },
-        Test::Bits(mask, wanted) => {
-            if mask == 0 {
-                Ok(fixed(diagrams, wanted == 0))
-            } else {
-                listed(diagrams, field, numbers, Test::Bits(mask, wanted))
-            }
-        }
+    match numbers {
+        Numbers::Plain => plain(diagrams, field, test),
+        _ => listed(diagrams, field, numbers, test),
     }
 }

@@ -1,11 +1,14 @@
 //! How a selector reads a packet's bits.
-ghost use Rattle.std.specs.Prelude.{◌≡◌, ◌≤◌, ℕ, Bool, length, IfOk, IfErr};
+ghost use Rattle.std.specs.Prelude.{◌≡◌, ◌<◌, ◌≤◌, ◌^◌, ℕ, Bool, length, IfOk, IfErr, IfSome};
 ghost use Rattle.packet_sets.specs.Sets.{Keeps, Means};
 ghost use Rattle.packet_sets.specs.declared.fault.SetError.TheVariants.{TooLarge};
+ghost use Rattle.nft_tree.specs.ValueTypes.{selector_width};
+ghost use Rattle.nft_tree.specs.declared.selector.Selector.{Selector};
 ghost use Rattle.rule_meaning.specs.Matches.{tests};
 ghost use Rattle.rule_meaning.specs.Selectors.{value};
-ghost use Rattle.fact_sets.specs.Effects.{seen};
-ghost use Rattle.fact_sets.specs.steps.Readings.{field_of, is_present, mark_field, mark_meant, meant, test_passes, value_meant};
+ghost use Rattle.fact_sets.specs.Cases.{seen};
+ghost use Rattle.fact_sets.specs.Tests.{test_passes};
+ghost use Rattle.fact_sets.specs.steps.Readings.{IsNarrow, field_of, is_present, mark_field, mark_meant, meant, value_meant};
 
 use crate::interfaces::Interfaces;
 use crate::layout;
@@ -43,8 +46,17 @@ fn mark_numbers<'a>(source: MarkSource) -> Numbers<'a>
     }
 }
 
+/// A mark fits its type. It does nothing.
+fn narrow_mark(mark: MarkSource)
+    ensures { (n : ℕ) → n < 2 ^ 32 → mark_meant mark n < 2 ^ 32 }
+{
+    if let MarkSource::Number(number) = mark {
+        let _ = number;
+    }
+}
+
 /// The packets for which the selector has a value.
-pub(crate) fn present(diagrams: &mut Diagrams, selector: Selector) -> Result<PacketSet, SetError>
+fn present(diagrams: &mut Diagrams, selector: Selector) -> Result<PacketSet, SetError>
     ensures keeps { Keeps diagrams.old diagrams.new }
     ensures value { IfOk result (λ set. Means diagrams.new set (is_present selector)) }
     ensures too_large { IfErr result (λ e. e ≡ TooLarge
@@ -111,8 +123,30 @@ impl<'a> Reader<'a> {
         }
     }
 
+    /// What selectors read fits their types. It does nothing.
+    fn narrow(self)
+        ensures { IsNarrow self.entry }
+    {
+        self.interfaces.narrow();
+        narrow_mark(self.written.packet);
+        narrow_mark(self.written.connection);
+    }
+
+    /// The value of each selector has no more bits than its type. It does nothing.
+    pub fn values_fit(self)
+        ensures { (selector : Selector) (packet : ℕ → Bool)
+            → IfSome (value selector (seen self.entry packet)) (λ n. n < 2 ^ selector_width selector) }
+    {
+        self.narrow();
+    }
+
     /// The packets for which the selector has a value that passes the test.
-    pub(crate) fn passing(
+    ///
+    /// # Errors
+    ///
+    /// `TooLarge` where more nodes are needed than the limit allows, `Memory` where an allocation
+    /// failed.
+    pub fn passing(
         self,
         diagrams: &mut Diagrams,
         selector: Selector,

@@ -7,7 +7,7 @@ use Rattle.packet_sets.specs.Sets.{DiagramsView, IsSet}
 use Rattle.chain_sets.specs.declared.outcomes.ChainEnd.{ChainEnd}
 use Rattle.rule_meaning.specs.Hooks.{BaseChain}
 use Rattle.fact_sets.specs.declared.cases.Case.{Case}
-use Rattle.fact_sets.specs.Effects.{AreCases}
+use Rattle.fact_sets.specs.Cases.{AreCases}
 use Rattle.rule_reach.specs.declared.sets.BaseSets.{BaseSets}
 use Rattle.rule_reach.specs.declared.sets.ReachSets.{ReachSets}
 use Rattle.rule_reach.specs.Reach.{run_chains}

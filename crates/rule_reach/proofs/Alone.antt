@@ -22,7 +22,7 @@ use Rattle.fact_sets.specs.Boxes.{NOTHING}
 use Rattle.fact_sets.specs.Facts.{facts_of}
 use Rattle.fact_sets.specs.declared.cases.Case.{Case}
 use Rattle.fact_sets.specs.declared.readings.Reader.{Reader}
-use Rattle.fact_sets.specs.Effects.{seen}
+use Rattle.fact_sets.specs.Cases.{seen}
 use Rattle.lowering.specs.Lowered.{HasDeclared}
 use Rattle.rule_code.specs.declared.code.Lookups.{Lookups}
 use Rattle.rule_sets.specs.declared.ends.End.{End}

@@ -6,7 +6,7 @@ use Rattle.std.proofs.lemmas.List.{drop_more, get_or_default}
 use Rattle.std.proofs.lemmas.List.Elements.{all_zip_more}
 use Rattle.packet_sets.specs.Sets.{DiagramsView, holds}
 use Rattle.fact_sets.specs.declared.cases.Case.{Case}
-use Rattle.fact_sets.specs.Effects.{AreCases}
+use Rattle.fact_sets.specs.Cases.{AreCases}
 use Rattle.rule_sets.specs.Ends.{outcomes_for}
 use Rattle.chain_sets.specs.declared.outcomes.ChainEnd.{ChainEnd}
 use Rattle.rule_reach.specs.steps.Telling.{SomeEnd, at_end}

@@ -2,7 +2,7 @@
 ghost use Rattle.std.specs.Prelude.{◌≡◌, ◌++◌, ◌∷◌, [], List, map, All, IfOk, OnOk};
 ghost use Rattle.nft_tree.specs.Tree.{TableTree};
 ghost use Rattle.box_file.specs.Box.{PlantTree};
-ghost use Rattle.fact_sets.specs.Effects.{AreCases};
+ghost use Rattle.fact_sets.specs.Cases.{AreCases};
 ghost use Rattle.rule_meaning.specs.Hooks.{BaseChain};
 ghost use Rattle.chain_sets.specs.RuleSets.{sets_of};
 ghost use Rattle.rule_reach.specs.Reach.{IsAnswer, IsPolicyReach, rules_of, run_chains};

@@ -2,7 +2,7 @@
 ghost use Rattle.std.specs.Prelude.{◌∷◌, [], IfOk};
 ghost use Rattle.std.specs.List.{AllZip};
 ghost use Rattle.packet_sets.specs.Sets.{IsSet};
-ghost use Rattle.fact_sets.specs.Effects.{AreCases};
+ghost use Rattle.fact_sets.specs.Cases.{AreCases};
 ghost use Rattle.chain_sets.specs.RuleSets.{sets_of};
 ghost use Rattle.rule_reach.specs.steps.Telling.{AreRuleSets, HasPacket, IsAnswerBy, IsTold, SomeEnd};
 

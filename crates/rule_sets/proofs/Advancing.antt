@@ -12,13 +12,13 @@ use Rattle.rule_meaning.specs.declared.event.RuleVerdict.{RuleVerdict}
 use Rattle.rule_meaning.specs.Statements.{StatementEffect, with_value}
 use Rattle.rule_meaning.specs.Runs.{Program, statement_position}
 use Rattle.fact_sets.specs.declared.cases.Case.{Case}
-use Rattle.fact_sets.specs.declared.cases.Outcome.{Outcome}
-use Rattle.fact_sets.specs.declared.cases.Outcome.TheVariants as outcomes
+use Rattle.action_cases.specs.declared.cases.Outcome.{Outcome}
+use Rattle.action_cases.specs.declared.cases.Outcome.TheVariants as outcomes
 use Rattle.fact_sets.specs.declared.readings.Reader.{Reader}
 use Rattle.fact_sets.specs.declared.written.Written.{Written}
 use Rattle.fact_sets.specs.declared.written.MarkSource.TheVariants as sources
-use Rattle.fact_sets.specs.Boxes.{written_after}
-use Rattle.fact_sets.specs.Effects.{AreCases, Decides, outcome_effect, picked, seen}
+use Rattle.fact_sets.specs.Cases.{AreCases, picked, seen}
+use Rattle.action_cases.specs.Effects.{Decides, outcome_effect, written_after}
 use Rattle.fact_sets.specs.Facts.{facts_of}
 use Rattle.rule_sets.specs.declared.ends.End.{End}
 use Rattle.rule_sets.specs.declared.parts.Parts.{Parts}

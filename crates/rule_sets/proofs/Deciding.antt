@@ -4,9 +4,10 @@ use Rattle.packet_sets.specs.Sets.{DiagramsView}
 use Rattle.rule_meaning.specs.declared.facts.Facts.{Facts}
 use Rattle.rule_meaning.specs.Statements.{StatementEffect}
 use Rattle.fact_sets.specs.declared.cases.Case.{Case}
-use Rattle.fact_sets.specs.declared.cases.Outcome.{Outcome}
+use Rattle.action_cases.specs.declared.cases.Outcome.{Outcome}
 use Rattle.fact_sets.specs.declared.readings.Reader.{Reader}
-use Rattle.fact_sets.specs.Effects.{Decides, seen}
+use Rattle.fact_sets.specs.Cases.{seen}
+use Rattle.action_cases.specs.Effects.{Decides}
 use Rattle.nft_tree.specs.declared.compared_types.ComparedType.{ComparedType}
 use Rattle.nft_tree.specs.declared.compared_types.ComparedType.TheVariants.{Named}
 use Rattle.nft_tree.specs.declared.selector.ValueType.TheVariants as types

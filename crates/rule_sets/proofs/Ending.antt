@@ -6,13 +6,13 @@ use Rattle.rule_meaning.specs.declared.facts.CtFacts.TheVariants as ct
 use Rattle.nft_tree.specs.declared.statement.MarkField.TheVariants as marks
 use Rattle.rule_meaning.specs.declared.event.RuleVerdict.{RuleVerdict}
 use Rattle.rule_meaning.specs.Statements.{StatementEffect, pass, fail, note, give, sets_notrack, writes_connection}
-use Rattle.fact_sets.specs.declared.cases.Outcome.{Outcome}
-use Rattle.fact_sets.specs.declared.cases.Outcome.TheVariants as outcomes
+use Rattle.action_cases.specs.declared.cases.Outcome.{Outcome}
+use Rattle.action_cases.specs.declared.cases.Outcome.TheVariants as outcomes
 use Rattle.fact_sets.specs.declared.readings.Reader.{Reader}
-use Rattle.fact_sets.specs.Boxes.{Leaves, written_after}
-use Rattle.fact_sets.specs.Effects.{outcome_effect, seen}
+use Rattle.fact_sets.specs.Cases.{seen}
+use Rattle.action_cases.specs.Effects.{Leaves, outcome_effect, written_after}
 use Rattle.fact_sets.specs.Facts.{facts_of, mark_number}
-use Rattle.fact_sets.proofs.BoxLaws.{kept}
+use Rattle.action_cases.proofs.KeptLaws.{kept}
 use Rattle.rule_sets.specs.Ends.{RuleEnd, end_behind}
 
 abbrev GoesOn : StatementEffect → Type 0

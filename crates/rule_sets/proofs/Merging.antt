@@ -5,7 +5,7 @@ use Rattle.std.proofs.lemmas.List.{length-map, map-append}
 use Rattle.packet_sets.specs.declared.packet_set.PacketSet.{PacketSet}
 use Rattle.packet_sets.specs.Sets.{DiagramsView, IsSet, Keeps, Means, holds}
 use Rattle.fact_sets.specs.declared.cases.Case.{Case}
-use Rattle.fact_sets.specs.Effects.{AreCases}
+use Rattle.fact_sets.specs.Cases.{AreCases}
 use Rattle.rule_sets.specs.Ends.{outcomes_for}
 use Rattle.rule_sets.specs.steps.Progress.{Adds, AddsCase}
 use Rattle.rule_sets.proofs.Sorting.{are-kept, are-more, outcomes-kept, outcomes-more}

@@ -6,9 +6,9 @@ use Rattle.std.proofs.lemmas.List.{drop_more}
 use Rattle.packet_sets.specs.declared.packet_set.PacketSet.{PacketSet}
 use Rattle.packet_sets.specs.Sets.{DiagramsView, IsSet, Keeps, Means, holds}
 use Rattle.fact_sets.specs.declared.cases.Case.{Case}
-use Rattle.fact_sets.specs.declared.cases.Outcome.{Outcome}
-use Rattle.fact_sets.specs.declared.cases.Outcome.TheVariants as outcomes
-use Rattle.fact_sets.specs.Effects.{AreCases, picked}
+use Rattle.action_cases.specs.declared.cases.Outcome.{Outcome}
+use Rattle.action_cases.specs.declared.cases.Outcome.TheVariants as outcomes
+use Rattle.fact_sets.specs.Cases.{AreCases, picked}
 use Rattle.rule_sets.specs.Ends.{outcomes_for}
 use Rattle.rule_sets.specs.Parts.{AreParts, as_list}
 

@@ -6,7 +6,7 @@ use Rattle.packet_sets.specs.declared.packet_set.PacketSet.{PacketSet}
 use Rattle.packet_sets.specs.Sets.{DiagramsView, IsSet, Keeps, Means, holds}
 use Rattle.fact_sets.specs.declared.cases.Case.{Case}
 use Rattle.fact_sets.specs.declared.written.MarkSource.TheVariants.{Packet}
-use Rattle.fact_sets.specs.Effects.{AreCases}
+use Rattle.fact_sets.specs.Cases.{AreCases}
 use Rattle.rule_sets.specs.declared.ends.End.{End}
 use Rattle.rule_sets.specs.Ends.{outcomes_for}
 use Rattle.rule_sets.proofs.Sorting.{are-kept, are-more, keeps_same, keeps_trans, outcomes-kept, outcomes-more}

@@ -14,7 +14,7 @@ use Rattle.rule_meaning.specs.Runs.{Program, RunResult, Runs, at_end, at_rule, i
 use Rattle.rule_meaning.specs.Runs.{statement_position, with_verdict}
 use Rattle.fact_sets.specs.declared.cases.Case.{Case}
 use Rattle.fact_sets.specs.declared.readings.Reader.{Reader}
-use Rattle.fact_sets.specs.Effects.{AreCases, seen}
+use Rattle.fact_sets.specs.Cases.{AreCases, seen}
 use Rattle.fact_sets.specs.Facts.{facts_of}
 use Rattle.rule_sets.specs.declared.ends.End.{End}
 

@@ -3,8 +3,8 @@ use Rattle.std.specs.Prelude.{◌≡◌, ℕ, ◌&&◌, not, Bool, cond, List, [
 use Rattle.packet_sets.specs.declared.packet_set.PacketSet.{PacketSet}
 use Rattle.packet_sets.specs.Sets.{DiagramsView, Means, holds}
 use Rattle.fact_sets.specs.declared.cases.Case.{Case}
-use Rattle.fact_sets.specs.declared.cases.Outcome.{Outcome}
-use Rattle.fact_sets.specs.Effects.{AreCases, picked}
+use Rattle.action_cases.specs.declared.cases.Outcome.{Outcome}
+use Rattle.fact_sets.specs.Cases.{AreCases, picked}
 use Rattle.rule_sets.specs.Ends.{outcomes_for}
 
 abbrev pub as_list : {V : Type 0} → Option V → List V

@@ -3,7 +3,7 @@ ghost use Rattle.std.specs.Prelude.{◌≡◌, ◌≤◌, true, length, IfErr, O
 ghost use Rattle.std.specs.List.{position};
 ghost use Rattle.packet_sets.specs.Sets.{IsSet, Keeps};
 ghost use Rattle.packet_sets.specs.declared.fault.SetError.TheVariants.{TooLarge};
-ghost use Rattle.fact_sets.specs.Effects.{AreCases};
+ghost use Rattle.fact_sets.specs.Cases.{AreCases};
 ghost use Rattle.rule_sets.specs.steps.Progress.{AddsCase};
 
 use fact_sets::Case;

@@ -2,7 +2,7 @@
 ghost use Rattle.std.specs.Prelude.{◌≡◌, ◌≤◌, [], ℕ, Bool, cond, length, IfOk, IfErr};
 ghost use Rattle.packet_sets.specs.Sets.{IsSet, Keeps, holds};
 ghost use Rattle.packet_sets.specs.declared.fault.SetError.TheVariants.{TooLarge};
-ghost use Rattle.fact_sets.specs.Effects.{AreCases};
+ghost use Rattle.fact_sets.specs.Cases.{AreCases};
 ghost use Rattle.rule_sets.specs.Ends.{outcomes_for};
 
 use crate::ends::End;

@@ -2,10 +2,11 @@
 ghost use Rattle.std.specs.Prelude.{◌≡◌, ◌≤◌, length, IfOk, IfErr};
 ghost use Rattle.packet_sets.specs.Sets.{IsSet, Keeps};
 ghost use Rattle.packet_sets.specs.declared.fault.SetError.TheVariants.{TooLarge};
-ghost use Rattle.fact_sets.specs.Effects.{AreCases};
+ghost use Rattle.fact_sets.specs.Cases.{AreCases};
 ghost use Rattle.rule_sets.specs.Parts.{AreParts};
 
-use fact_sets::{Case, Outcome};
+use action_cases::Outcome;
+use fact_sets::Case;
 use packet_sets::{Diagrams, PacketSet, SetError};
 use std::alloc::Global;
 

@@ -7,10 +7,11 @@ ghost use Rattle.rule_types.specs.Types.{statement_mismatches};
 ghost use Rattle.rule_values.specs.Faults.{statement_out_of_range};
 ghost use Rattle.rule_meaning.specs.Statements.{statement_effect};
 ghost use Rattle.lowering.specs.Lowered.{Extends, HasDeclared, scope_of};
-ghost use Rattle.fact_sets.specs.Effects.{Decides};
+ghost use Rattle.action_cases.specs.Effects.{Decides};
 
+use action_cases::{Outcome, action_cases};
 use box_file::Plant;
-use fact_sets::{Case, Outcome, Reader};
+use fact_sets::{Case, Reader};
 use lowering::action;
 use nft_tree::Stmt;
 use packet_sets::{Diagrams, SetError};
@@ -54,5 +55,5 @@ pub fn statement_cases(
         → diagrams.new.limit ≤ length diagrams.new.nodes) }
 {
     let action = action(alloc, setting.plant, setting.names, position, stmt, lookups)?;
-    reader.cases(alloc, diagrams, lookups, &action)
+    action_cases(reader, alloc, diagrams, lookups, &action)
 }

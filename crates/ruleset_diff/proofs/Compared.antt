@@ -11,7 +11,7 @@ use Rattle.packet_sets.specs.declared.packet_set.PacketSet.{PacketSet}
 use Rattle.packet_sets.specs.Sets.{DiagramsView, IsSet, Keeps, Means, holds}
 use Rattle.rule_meaning.specs.declared.stage.HookStage.{HookStage}
 use Rattle.fact_sets.specs.declared.cases.Case.{Case}
-use Rattle.fact_sets.specs.Effects.{AreCases}
+use Rattle.fact_sets.specs.Cases.{AreCases}
 use Rattle.fact_sets.proofs.SetLaws.{keeps_same, keeps_trans}
 use Rattle.rule_sets.specs.Ends.{outcomes_for}
 use Rattle.rule_sets.proofs.Sorting.{are-kept, outcomes-kept, outcomes-more}

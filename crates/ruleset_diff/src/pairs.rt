@@ -2,7 +2,7 @@
 ghost use Rattle.std.specs.Prelude.{◌≡◌, ◌++◌, ◌∷◌, [], List, All, IfOk, OnOk};
 ghost use Rattle.packet_sets.specs.declared.packet_set.PacketSet.{PacketSet};
 ghost use Rattle.packet_sets.specs.Sets.{IsSet, Keeps, holds};
-ghost use Rattle.fact_sets.specs.Effects.{AreCases};
+ghost use Rattle.fact_sets.specs.Cases.{AreCases};
 ghost use Rattle.fact_sets.specs.declared.cases.Case.{Case};
 ghost use Rattle.stage_sets.specs.declared.outcome.StageOutcome.{StageOutcome};
 ghost use Rattle.ruleset_diff.specs.declared.differences.Difference.{Difference};

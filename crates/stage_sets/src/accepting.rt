@@ -3,7 +3,7 @@ ghost use Rattle.std.specs.Prelude.{◌≡◌, ◌≤◌, ◌&&◌, ◌||◌, le
 ghost use Rattle.packet_sets.specs.Sets.{IsSet, Keeps, Means, holds};
 ghost use Rattle.packet_sets.specs.declared.fault.SetError.TheVariants as sets;
 ghost use Rattle.fact_sets.specs.Boxes.{NOTHING};
-ghost use Rattle.fact_sets.specs.Effects.{AreCases};
+ghost use Rattle.fact_sets.specs.Cases.{AreCases};
 ghost use Rattle.fact_sets.specs.Facts.{facts_of};
 ghost use Rattle.rule_sets.specs.Interfaces.{interfaces_of};
 ghost use Rattle.chain_ways.specs.BaseWays.{accepts, filters_of};

@@ -3,7 +3,7 @@ use Rattle.std.specs.Prelude.{◌≡◌, ℕ, Bool, true, ◌||◌, List, [], �
 use Rattle.std.specs.List.{list_any}
 use Rattle.packet_sets.specs.Sets.{DiagramsView, holds}
 use Rattle.fact_sets.specs.declared.cases.Case.{Case}
-use Rattle.fact_sets.specs.Effects.{AreCases}
+use Rattle.fact_sets.specs.Cases.{AreCases}
 use Rattle.rule_sets.specs.Ends.{outcomes_for}
 
 -- the outcome of some case that has the packet passes the test

@@ -3,12 +3,13 @@ use Rattle.std.specs.Prelude.{Option, Some, None}
 use Rattle.std.specs.Option.{option_map}
 use Rattle.nft_tree.specs.declared.ruleset.RuleNo.{RuleNo}
 use Rattle.rule_meaning.specs.declared.event.HookVerdict.{HookVerdict}
-use Rattle.rule_meaning.specs.declared.event.HookVerdict.TheVariants as hooks
 use Rattle.rule_meaning.specs.declared.event.RuleVerdict.{RuleVerdict}
-use Rattle.rule_meaning.specs.declared.event.RuleVerdict.TheVariants as verdicts
 use Rattle.fact_sets.specs.declared.cases.Case.{Case}
 use Rattle.fact_sets.specs.declared.written.Written.{Written}
 use Rattle.rule_sets.specs.declared.ends.End.{End}
+use Rattle.chain_ways.specs.declared.exits.RuleExit.{RuleExit}
+use Rattle.chain_ways.specs.declared.exits.RuleExit.TheVariants as exits
+use Rattle.chain_ways.specs.Exits.{exit_by}
 use Rattle.chain_sets.specs.declared.outcomes.ChainEnd.{ChainEnd}
 use Rattle.chain_sets.specs.declared.outcomes.Turn.{Turn}
 use Rattle.chain_sets.specs.declared.outcomes.Course.{Course}
@@ -46,14 +47,15 @@ end_in (Ends e) = Some e
 abbrev pub case_if : {V W : Type 0} → (V → Option W) → Case V → Option (Case W)
 case_if part c = option_map (λ w. record { set = c.set; outcome = w }) (part c.outcome)
 
--- what becomes of packets behind the rule, with this verdict
+-- what becomes of packets behind the rule
 module _ (rule : RuleNo) where
+  abbrev pub course_at : RuleExit → Written → Course
+  course_at exits.Next written = To (Next written)
+  course_at exits.End written = To (Ends (end_without written))
+  course_at (exits.Over verdict) written = To (Ends (end_by rule verdict written))
+  course_at (exits.Jump chain) written = Jump chain
+  course_at (exits.Goto chain) written = Goto chain
+
+  -- with this verdict
   abbrev pub course_by : Option RuleVerdict → Written → Course
-  course_by None written = To (Next written)
-  course_by (Some verdicts.Continue) written = To (Next written)
-  course_by (Some verdicts.Accept) written = To (Ends (end_by rule hooks.Accepted written))
-  course_by (Some verdicts.Drop) written = To (Ends (end_by rule hooks.Dropped written))
-  course_by (Some (verdicts.Translate action)) written = To (Ends (end_by rule (hooks.Translated action) written))
-  course_by (Some verdicts.Return) written = To (Ends (end_without written))
-  course_by (Some (verdicts.Jump chain)) written = Jump chain
-  course_by (Some (verdicts.Goto chain)) written = Goto chain
+  course_by verdict written = course_at (exit_by verdict) written

@@ -8,7 +8,7 @@ use Rattle.rule_meaning.specs.declared.facts.Interface.{Interface}
 use Rattle.rule_meaning.specs.Runs.{Program}
 use Rattle.fact_sets.specs.declared.cases.Case.{Case}
 use Rattle.fact_sets.specs.declared.written.Written.{Written}
-use Rattle.fact_sets.specs.Effects.{AreCases}
+use Rattle.fact_sets.specs.Cases.{AreCases}
 use Rattle.fact_sets.specs.Facts.{facts_of}
 use Rattle.rule_sets.specs.Ends.{rule_end}
 use Rattle.chain_ways.specs.Ways.{Visit}

@@ -1,18 +1,12 @@
 -- How a selector reads a packet's bits: a field, what its numbers stand for, and which packets have a value.
 use Rattle.std.specs.Prelude.{ℕ, ◌+◌, ◌*◌, ◌/◌, ◌%◌, ◌^◌, ◌<◌, ◌≤◌}
-use Rattle.std.specs.Prelude.{◌==◌, ◌&&◌, nat_le, nat_lt, not, bit_and, Bool, true}
-use Rattle.std.specs.Prelude.{List, [], ◌∷◌}
-use Rattle.nft_tree.specs.ValueTypes.{selector_width}
+use Rattle.std.specs.Prelude.{◌==◌, ◌&&◌, nat_le, Bool, true}
 use Rattle.std.specs.Prelude.{if◌then◌else◌}
 use Rattle.packet_sets.specs.declared.fields.Field.{Field}
 use Rattle.nft_tree.specs.declared.selector.Selector.{Selector}
 use Rattle.nft_tree.specs.declared.selector.Selector.TheVariants as selectors
 use Rattle.fact_sets.specs.declared.numbers.Numbers.{Numbers}
 use Rattle.fact_sets.specs.declared.numbers.Numbers.TheVariants as numbers
-use Rattle.fact_sets.specs.declared.concatenations.Bound.{Bound}
-use Rattle.fact_sets.specs.declared.concatenations.Bound.TheVariants as bounds
-use Rattle.fact_sets.specs.declared.ranges.Test.{Test}
-use Rattle.fact_sets.specs.declared.ranges.Test.TheVariants as tests
 use Rattle.fact_sets.specs.declared.readings.Reader.{Reader}
 use Rattle.fact_sets.specs.steps.Interfaces.{AreNarrow}
 use Rattle.fact_sets.specs.declared.written.MarkSource.{MarkSource}
@@ -45,32 +39,6 @@ meant (numbers.Indexes interfaces) n = (interface_at interfaces.now n).index
 meant (numbers.Constant number) n = number
 meant numbers.States n = state_meant n
 meant numbers.Statuses n = status_meant n
-
-abbrev pub test_passes : Test → ℕ → Bool
-test_passes (tests.AtLeast low) n = nat_le low n
-test_passes (tests.AtMost high) n = nat_le n high
-test_passes (tests.Within low high) n = nat_le low n && nat_le n high
-test_passes (tests.Bits mask wanted) n = bit_and n mask == wanted
-
--- the number is within the bound
-abbrev pub bound_passes : Bound → ℕ → ℕ → Bool
-bound_passes bounds.Least number n = nat_le number n
-bound_passes bounds.Most number n = nat_le n number
-
--- it is strictly within the bound
-abbrev pub is_beyond : Bound → ℕ → ℕ → Bool
-is_beyond bounds.Least number n = nat_lt number n
-is_beyond bounds.Most number n = nat_lt n number
-
--- the same, where it has at least the bound, and at most it
-abbrev pub is_past : Bound → Bool → Bool → Bool
-is_past bounds.Least least most = least && not most
-is_past bounds.Most least most = most && not least
-
--- how many bits the selectors' values take
-abbrev pub joined_width : List Selector → ℕ
-joined_width [] = 0
-joined_width (s ∷ ss) = selector_width s + joined_width ss
 
 -- the selector has a value for this packet
 abbrev pub is_present : Selector → (ℕ → Bool) → Bool

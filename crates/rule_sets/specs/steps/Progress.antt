@@ -6,7 +6,8 @@ use Rattle.packet_sets.specs.Sets.{DiagramsView, holds}
 use Rattle.rule_meaning.specs.declared.facts.Facts.{Facts}
 use Rattle.fact_sets.specs.declared.cases.Case.{Case}
 use Rattle.fact_sets.specs.declared.readings.Reader.{Reader}
-use Rattle.fact_sets.specs.Effects.{AreCases, outcome_effect, seen}
+use Rattle.fact_sets.specs.Cases.{AreCases, seen}
+use Rattle.action_cases.specs.Effects.{outcome_effect}
 use Rattle.fact_sets.specs.Facts.{facts_of}
 use Rattle.rule_sets.specs.declared.parts.Parts.{Parts}
 use Rattle.rule_sets.specs.declared.progress.Progress.{Progress}

@@ -8,7 +8,7 @@ use Rattle.rule_meaning.specs.declared.facts.Interface.{Interface}
 use Rattle.rule_meaning.specs.Runs.{table_program}
 use Rattle.rule_meaning.specs.Hooks.{BaseChain, policy_of}
 use Rattle.fact_sets.specs.declared.cases.Case.{Case}
-use Rattle.fact_sets.specs.Effects.{AreCases}
+use Rattle.fact_sets.specs.Cases.{AreCases}
 use Rattle.chain_ways.specs.Ways.{way}
 use Rattle.chain_ways.specs.BaseWays.{LEVELS, StageEnd, behind_end, by_policy}
 use Rattle.chain_sets.specs.steps.Merging.{some_outcome}

@@ -7,7 +7,7 @@ use Rattle.nft_tree.specs.TreeViews.{rule_tree, statement}
 use Rattle.rule_types.specs.Types.{rule_mismatches, statement_mismatches}
 use Rattle.rule_values.specs.Faults.{statement_out_of_range}
 use Rattle.rule_meaning.specs.Runs.{table_program}
-use Rattle.fact_sets.specs.Effects.{AreCases}
+use Rattle.fact_sets.specs.Cases.{AreCases}
 use Rattle.rule_sets.proofs.Deciding.{declared_kept, extends_trans}
 use Rattle.rule_sets.proofs.Sorting.{are-kept, keeps_trans}
 use Rattle.chain_sets.specs.declared.outcomes.Exit.TheVariants.{Ends}

@@ -1,6 +1,6 @@
 use Rattle.coming_sets.specs.Coming.{is_at, is_packet}
 use Rattle.coming_sets.specs.Bases.{base_chain}
-use Rattle.fact_sets.specs.Effects.{seen}
+use Rattle.fact_sets.specs.Cases.{seen}
 use Rattle.fact_sets.proofs.SetLaws.{keeps_trans, keeps_twice}
 use Rattle.coming_sets.proofs.Matching.{and_after}
 use Rattle.coming_sets.proofs.can_come.coming.Goals as goal

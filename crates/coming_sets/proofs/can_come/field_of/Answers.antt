@@ -1,7 +1,7 @@
 use Rattle.std.proofs.Common.{Bool, ℕ}
 use Rattle.nft_tree.specs.declared.selector.Selector.TheVariants.{IpProtocol}
 use Rattle.nft_tree.specs.declared.statement.Operator.TheVariants.{Equal}
-use Rattle.fact_sets.specs.Effects.{seen}
+use Rattle.fact_sets.specs.Cases.{seen}
 use Rattle.fact_sets.proofs.SetLaws.{keeps_trans, keeps_twice, means_kept}
 use Rattle.coming_sets.specs.Coming.{has_value, matches}
 use Rattle.coming_sets.proofs.Matching.{alike_ok}

@@ -1,6 +1,6 @@
 use Rattle.std.proofs.Common.{◌&&◌, Bool, ℕ}
 use Rattle.nft_tree.specs.declared.selector.Selector.TheVariants.{IcmpType, TcpSource, UdpSource}
-use Rattle.fact_sets.specs.Effects.{seen}
+use Rattle.fact_sets.specs.Cases.{seen}
 use Rattle.fact_sets.proofs.SetLaws.{and_means, keeps_trans, keeps_twice, keeps_thrice, means_kept}
 use Rattle.coming_sets.specs.Coming.{is_field_of}
 use Rattle.coming_sets.proofs.Matching.{and_after}

@@ -1,6 +1,6 @@
 use Rattle.std.specs.Prelude.{◌&&◌}
 use Rattle.coming_sets.specs.Coming.{has_headers, has_input, has_length}
-use Rattle.fact_sets.specs.Effects.{seen}
+use Rattle.fact_sets.specs.Cases.{seen}
 use Rattle.fact_sets.proofs.SetLaws.{keeps_trans, keeps_twice}
 use Rattle.coming_sets.proofs.Matching.{and_after}
 use Rattle.coming_sets.proofs.can_come.packets.Goals as goal

@@ -1,4 +1,4 @@
-use Rattle.fact_sets.specs.Effects.{seen}
+use Rattle.fact_sets.specs.Cases.{seen}
 use Rattle.fact_sets.proofs.SetLaws.{keeps_trans}
 use Rattle.coming_sets.specs.Coming.{has_value}
 use Rattle.coming_sets.proofs.Matching.{not_ok}

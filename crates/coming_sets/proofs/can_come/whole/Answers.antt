@@ -1,5 +1,5 @@
 use Rattle.coming_sets.specs.Coming.{has_headers, has_length}
-use Rattle.fact_sets.specs.Effects.{seen}
+use Rattle.fact_sets.specs.Cases.{seen}
 use Rattle.fact_sets.proofs.SetLaws.{keeps_trans, keeps_twice}
 use Rattle.coming_sets.proofs.Matching.{and_after}
 use Rattle.coming_sets.proofs.can_come.whole.Goals as goal

@@ -1,6 +1,6 @@
 use Rattle.std.specs.Prelude.{◌&&◌}
 use Rattle.coming_sets.specs.Coming.{has_output, has_state_in, hook_of, is_packet}
-use Rattle.fact_sets.specs.Effects.{seen}
+use Rattle.fact_sets.specs.Cases.{seen}
 use Rattle.fact_sets.proofs.SetLaws.{keeps_trans, keeps_twice}
 use Rattle.coming_sets.proofs.Matching.{and_after}
 use Rattle.coming_sets.proofs.stages.coming_to.Goals as goal

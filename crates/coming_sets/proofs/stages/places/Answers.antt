@@ -1,7 +1,7 @@
 use Rattle.std.proofs.Common.{subst}
 use Rattle.packet_sets.specs.Sets.{Means}
 use Rattle.coming_sets.specs.Coming.{has_output, has_state_in, hook_of}
-use Rattle.fact_sets.specs.Effects.{seen}
+use Rattle.fact_sets.specs.Cases.{seen}
 use Rattle.fact_sets.proofs.SetLaws.{keeps_trans, keeps_twice}
 use Rattle.coming_sets.proofs.Matching.{and_after}
 use Rattle.coming_sets.proofs.stages.places.Goals as goal

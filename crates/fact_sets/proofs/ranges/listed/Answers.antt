@@ -1,6 +1,7 @@
 use Rattle.std.proofs.Common.{arith, ap, sym, ◌∙◌, ℕ, Bool}
 use Rattle.fact_sets.specs.Facts.{number_in}
-use Rattle.fact_sets.specs.steps.Readings.{meant, test_passes}
+use Rattle.fact_sets.specs.Tests.{test_passes}
+use Rattle.fact_sets.specs.steps.Readings.{meant}
 use Rattle.fact_sets.proofs.SetLaws.{keeps_trans}
 use Rattle.fact_sets.proofs.FieldNumbers.{all_numbers, none_more, one_more}
 use Rattle.fact_sets.proofs.ranges.listed.Goals as goal

@@ -1,7 +1,8 @@
 use Rattle.std.proofs.Common.{◌&&◌, nat_lt}
 use Rattle.packet_sets.specs.Sets.{Keeps, Means}
 use Rattle.fact_sets.specs.Facts.{number_in}
-use Rattle.fact_sets.specs.steps.Readings.{meant, test_passes}
+use Rattle.fact_sets.specs.Tests.{test_passes}
+use Rattle.fact_sets.specs.steps.Readings.{meant}
 use Rattle.fact_sets.proofs.ranges.listed.Given as goal
 
 abbrev pub invariant-loop-number : goal.invariant-loop-number

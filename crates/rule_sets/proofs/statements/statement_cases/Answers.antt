@@ -4,5 +4,5 @@ use Rattle.rule_sets.proofs.statements.statement_cases.Goals as goal
 
 pub returns-clause-value : goal.returns-clause-value
 returns-clause-value c =
-    IfOk-weaker c.cases.result _ _ (λ cases h. decides_as c.cases.new.diagrams c.args.reader cases.items _ _
-    (c.in_ok-action.ensures.effect c.action.new.lookups (extends_same c.action.new.lookups)) h) c.cases.ensures.value
+    IfOk-weaker c.action_cases.result _ _ (λ cases h. decides_as c.action_cases.new.diagrams c.args.reader cases.items _ _
+    (c.in_ok-action.ensures.effect c.action.new.lookups (extends_same c.action.new.lookups)) h) c.action_cases.ensures.value

@@ -1,5 +1,5 @@
 use Rattle.std.proofs.Common.{ap₂, map, subst, sym, [], ◌++◌, ◌∙◌}
-use Rattle.fact_sets.specs.Effects.{AreCases}
+use Rattle.fact_sets.specs.Cases.{AreCases}
 use Rattle.rule_meaning.specs.Runs.{table_program}
 use Rattle.rule_meaning.specs.Hooks.{policy_of}
 use Rattle.rule_sets.proofs.Sorting.{keeps_trans}

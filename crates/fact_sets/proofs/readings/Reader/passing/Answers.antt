@@ -1,6 +1,7 @@
 use Rattle.std.proofs.Common.{ℕ, Bool}
 use Rattle.fact_sets.specs.Facts.{number_in}
-use Rattle.fact_sets.specs.steps.Readings.{is_present, meant, test_passes}
+use Rattle.fact_sets.specs.Tests.{test_passes}
+use Rattle.fact_sets.specs.steps.Readings.{is_present, meant}
 use Rattle.fact_sets.proofs.SetLaws.{and_ok, keeps_trans, keeps_twice, means_kept, ok_as}
 use Rattle.fact_sets.proofs.SelectorLaws.{is_field, passing_is}
 use Rattle.fact_sets.proofs.readings.Reader.passing.Goals as goal

@@ -3,7 +3,7 @@ use Rattle.std.proofs.lemmas.List.{drop_all}
 use Rattle.nft_tree.specs.TreeViews.{statement}
 use Rattle.rule_meaning.specs.Statements.{statement_effect}
 use Rattle.lowering.specs.Lowered.{scope_of}
-use Rattle.fact_sets.specs.Effects.{Decides}
+use Rattle.action_cases.specs.Effects.{Decides}
 use Rattle.rule_sets.proofs.Advancing.{any_written, comes_all, comes_more, comes_next, sets_kept}
 use Rattle.rule_sets.proofs.Deciding.{declared_kept, extends_trans}
 use Rattle.rule_sets.proofs.Sorting.{keeps_trans}

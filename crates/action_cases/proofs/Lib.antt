@@ -1,0 +1,4 @@
+pub mod JoinedLaws
+pub mod BoundedLaws
+pub mod CaseLaws
+pub mod KeptLaws
