@@ -1,6 +1,6 @@
 //! Notes: the lines of the report that aren't written yet.
 ghost use Rattle.std.specs.Prelude.{◌≡◌, ◌≤◌, ◌+◌, ◌++◌, length, max, vec_len, vec_capacity, IsOk, OnOk, OnErr};
-ghost use Rattle.report.specs.steps.Noting.{noted, noted_event};
+ghost use Rattle.report.specs.steps.Noting.{is_noted, noted};
 
 use history::{Entry, Outcome};
 use rule_meaning::Event;
@@ -15,18 +15,15 @@ pub enum Note {
     Ended(u64, Outcome),
 }
 
-impl Note {
-    /// The note of an event: of a log always, of a verdict or a policy only with `trace`.
-    fn of(number: u64, event: Event, trace: bool) -> Option<Self>
-        ensures { result ≡ noted_event trace number event }
-    {
-        match event {
-            Event::Logged(_) => Some(Note::Event(number, event)),
-            Event::TookVerdict(_, _) | Event::TookPolicy(_, _) if trace => {
-                Some(Note::Event(number, event))
-            }
-            _ => None,
-        }
+/// Whether an event has a note: a log always, a verdict or a policy only with `trace`.
+#[inline(always)]
+fn is_noted(event: &Event, trace: bool) -> bool
+    ensures { result ≡ is_noted trace event.now }
+{
+    match event {
+        Event::Logged(_) => true,
+        Event::TookVerdict(_, _) | Event::TookPolicy(_, _) => trace,
+        _ => false,
     }
 }
 
@@ -63,8 +60,8 @@ pub fn note_entry(notes: &mut Vec<Note>, entry: &Entry, trace: bool)
     ensures capacity { vec_capacity notes.new ≡ vec_capacity notes.old }
 {
     for event in entry.events {
-        if let Some(note) = Note::of(entry.number, *event, trace) {
-            notes.push_reserved(note);
+        if is_noted(event, trace) {
+            notes.push_reserved(Note::Event(entry.number, *event));
         }
     }
     if trace {

@@ -1,5 +1,5 @@
 -- The notes of entries.
-use Rattle.std.specs.Prelude.{ℕ, Bool, cond, List, [], ◌∷◌, ◌++◌, Option, Some, None}
+use Rattle.std.specs.Prelude.{ℕ, Bool, true, false, cond, List, [], ◌∷◌, ◌++◌, Option, Some, None}
 use Rattle.std.specs.Option.{option_to_list}
 use Rattle.std.specs.List.{flat_map}
 use Rattle.rule_meaning.specs.declared.event.Event.{Event}
@@ -8,14 +8,16 @@ use Rattle.history.specs.declared.outcome.Outcome.{Outcome}
 use Rattle.report.specs.declared.notes.Note.{Note}
 use Rattle.report.specs.declared.notes.Note.TheVariants as notes
 
--- the note of an event of record n: of a log always, of a verdict and a policy where it is traced
+-- whether an event has a note: a log always, a verdict and a policy where it is traced
+abbrev pub is_noted : Bool → Event → Bool
+is_noted trace (events.Logged at) = true
+is_noted trace (events.TookVerdict rule verdict) = trace
+is_noted trace (events.TookPolicy chain policy) = trace
+is_noted trace _ = false
+
+-- its note, as one of record n
 abbrev pub noted_event : Bool → ℕ → Event → Option Note
-noted_event trace n (events.Logged at) = Some (notes.Event n (events.Logged at))
-noted_event trace n (events.TookVerdict rule verdict) =
-    cond trace (Some (notes.Event n (events.TookVerdict rule verdict))) None
-noted_event trace n (events.TookPolicy chain policy) =
-    cond trace (Some (notes.Event n (events.TookPolicy chain policy))) None
-noted_event trace n _ = None
+noted_event trace n event = cond (is_noted trace event) (Some (notes.Event n event)) None
 
 abbrev pub noted_end : Bool → ℕ → Outcome → List Note
 noted_end trace n outcome = cond trace (notes.Ended n outcome ∷ []) []
