@@ -4,7 +4,7 @@ pub use Rattle.aged_tracker.specs.declared.aged_slots.AgedSlots.{AgedSlots}
 pub use Rattle.aged_tracker.specs.declared.slot.Link.{Link}
 pub use Rattle.aged_tracker.specs.declared.slot.Neighbour.TheVariants.{Next, Previous}
 pub use Rattle.aged_tracker.specs.declared.slot.Slot.{Slot}
-pub use Rattle.aged_tracker.specs.steps.Table.{AreOldest, AreOldestBut, HasRings, IsAllLive, IsIndexed, IsLiveQueue, IsNode, IsNumbered, IsRing, IsRings}
+pub use Rattle.aged_tracker.specs.steps.Table.{AreLiveUntil, AreOldest, AreOldestBut, HasRings, IsAllLive, IsIndexed, IsLiveQueue, IsNode, IsNumbered, IsRing, IsRings}
 pub use Rattle.aged_tracker.specs.steps.Table.{IsRising, IsTable, Lists, MAX_KEYS, Relinks, Relists, SameBy, Sets, belonging_as, belonging_at, belonging_in, connections_by, cons_held}
 pub use Rattle.aged_tracker.specs.steps.Table.{entry_at, entry_below, except_links, held_at, held_by, held_from, held_of, is_first, key_in, last_at, last_by}
 pub use Rattle.aged_tracker.specs.steps.Table.{limit_at, link_at, link_by, neighbour, next_of, number, numbered_entry, off, owner_by, owner_of, prev_of}

@@ -8,8 +8,13 @@ use Rattle.aged_tracker.proofs.Names.{connection_of, connections_by, cons_held, 
 use Rattle.aged_tracker.proofs.Names.{except_links, false, filter, find, get, get_or, held_at, held_by, held_from, held_of, inl, inr, is_live, is_some}
 use Rattle.aged_tracker.proofs.Names.{last_at, last_by, length, limit_at, limit_of, map, nat_tests, ne_eqb, none-some, not, numbered_entry, off, option_cases}
 use Rattle.aged_tracker.proofs.Names.{option_map, pushed, queue_of, refl, same_Some, serial_at, serial_by, slice_get, slots_of, some_of_map, subst, suc, sym}
-use Rattle.aged_tracker.proofs.Names.{true, true≢false, without, zero, ℕ, ◌&&◌, ◌++◌, ◌+◌, ◌-◌, ◌<◌, ◌∙◌, ◌∷◌, ◌≡◌, ◌≢◌, ◌≤◌}
+use Rattle.aged_tracker.proofs.Names.{true, true≢false, without, zero, ℕ, ◌&&◌, ◌++◌, ◌+◌, ◌<◌, ◌∙◌, ◌∷◌, ◌≡◌, ◌≢◌, ◌≤◌}
 use Rattle.aged_tracker.proofs.Lists.{front_owned, kept_by, named_at, none_in, pushed_by, rising_as, rising_first, some_of}
+use Rattle.aged_tracker.proofs.Names.{AreLiveUntil, Direction, Flags, touched}
+use Rattle.box_file.specs.Idle.{limit_for}
+use Rattle.box_file.specs.declared.idle_line.IdleKind.{IdleKind}
+use Rattle.box_file.specs.declared.idle_line.IdleKind.TheVariants as idle
+use Rattle.conntrack.specs.Phases.{idle_kind, phase_of}
 use Rattle.std.proofs.lemmas.Cmp.{nat_eq_equiv}
 use Rattle.std.proofs.lemmas.Map.Entries.{lookup_tail}
 use Rattle.std.proofs.lemmas.Map.Views.{Contains-from_lookup, lookup-from_Contains}
@@ -344,12 +349,12 @@ module _ (limits : Limits) (t : AgedSlots) (now q : ℕ) (table : IsTable t) (ra
   queue_empty none k h is at = absurd (none_in (table.rings.0 q) k none (listed k h is at))
 
   module _ (key : ℕ) (front : slice_get (table.rings.0 q) 0 ≡ Some key) where
-    pub queue_live : now - get_or t.oldest q 0 < limit_at limits q → IsLiveQueue limits (slots_of t) now q
-    queue_live live k h is at =
+    pub queue_live : now < get_or t.oldest q 0 + limit_at limits q → 0 < limit_at limits q → IsLiveQueue limits (slots_of t) now q
+    queue_live live some k h is at =
         let least = rising_first (last_at (slots_of t)) (table.rings.0 q) key k (table.rising q range) front (listed k h is at) in
-        grind (arith, nat_tests, least, table.oldest q range key front, limit_of-at limits h q at)
+        grind (arith, nat_tests, least, table.oldest q range key front, limit_of-at limits h q at, live, some)
 
-    pub front_expired : limit_at limits q ≤ now - get_or t.oldest q 0
+    pub front_expired : get_or t.oldest q 0 + limit_at limits q ≤ now
         → IfSome (slots_of t key) (λ h. is_live limits now h ≡ false) × IsSome (slots_of t key)
     front_expired expired =
         let owned = front_owned t.slots t.queues table.rings.0 table.rings.1 q key range front in
@@ -359,3 +364,27 @@ module _ (limits : Limits) (t : AgedSlots) (now q : ℕ) (table : IsTable t) (ra
 pub all_live : (limits : Limits) (t : AgedSlots) (now : ℕ) → ((q : ℕ) → q < 5 → IsLiveQueue limits (slots_of t) now q)
     → IsAllLive limits (slots_of t) now
 all_live limits t now each key h is = each (queue_of h) (queue_of-range h) key h is refl
+
+-- ---- until when all entries are live
+
+positive : (limits : Limits) (kind : IdleKind) → 0 < limit_for limits kind
+positive limits idle.Udp = grind (arith, nat_tests, limits.positive)
+positive limits idle.Established = grind (arith, nat_tests, limits.positive)
+positive limits idle.Transitory = grind (arith, nat_tests, limits.positive)
+positive limits idle.Echo = grind (arith, nat_tests, limits.positive)
+positive limits idle.Other = grind (arith, nat_tests, limits.positive)
+
+least_limit : (limits : Limits) (h : ConntrackEntry) → 1000000000 ≤ limit_of limits h
+least_limit limits h = let some = positive limits (idle_kind h.original.kind (phase_of h)) in omega (arith, some)
+
+pub touched_lasts : (direction : Direction) (flags : Flags) (mark now : ℕ) {until : ℕ} (slot : Option ConntrackEntry) → until < now + 1000000000
+    → IfSome (option_map (touched direction flags mark now) slot) (λ h. until < h.last + 1000000000)
+touched_lasts direction flags mark now None less = tt
+touched_lasts direction flags mark now (Some h) less = less
+
+-- one entry is set, which has expired by then no more than the others
+pub lasting : (limits : Limits) {old new : ℕ → Option ConntrackEntry} {key : ℕ} {slot : Option ConntrackEntry} → Sets old new key slot
+    → {before until : ℕ} → AreLiveUntil limits old before → until ≤ before → IfSome slot (λ h. until < h.last + 1000000000)
+    → AreLiveUntil limits new until
+lasting limits sets live sooner last moment within k h is =
+    grind (arith, nat_tests, sets.changed, sets.others k, live moment, least_limit limits h)

@@ -1,10 +1,10 @@
 //! The slots of a table, and the lists through them.
-ghost use Rattle.std.specs.Prelude.{◌≡◌, ◌+◌, ◌<◌, ◌≤◌, ◌++◌, ◌∷◌, [], ℕ, IsTrue, IsSome, IfOk, IsOk, OnOk, Some, None, IfSome, IfNone, false, map, slice_get};
+ghost use Rattle.std.specs.Prelude.{◌≡◌, ◌+◌, ◌<◌, ◌≤◌, ◌++◌, ◌∷◌, [], ℕ, IsTrue, IsSome, IfOk, IfErr, IsOk, OnOk, Some, None, IfSome, false, map, option_map, slice_get};
 ghost use Rattle.slab.specs.Slab.{get, Updates};
 ghost use Rattle.conntrack.specs.ConntrackEntry.{connection_of, is_live, without};
-ghost use Rattle.conntrack.specs.TableEntries.{begun_with, touched_at, IsNoneLater, IsWithin};
-ghost use Rattle.aged_tracker.specs.steps.Table.{AreOldest, AreOldestBut, HasRings, IsAllLive, IsLiveQueue, IsOwned, IsRings, IsTable, Lists, MAX_KEYS};
-ghost use Rattle.aged_tracker.specs.steps.Table.{Relists, SameBy, SameSize, Slots as SlotsName, belonging_at, except_links, has_room, held_at, held_by};
+ghost use Rattle.conntrack.specs.TableEntries.{begun_with, touched, touched_at, IsNoneLater, IsWithin};
+ghost use Rattle.aged_tracker.specs.steps.Table.{AreLiveUntil, AreOldest, AreOldestBut, HasRings, IsLiveQueue, IsOwned, IsRings, IsTable, Lists, MAX_KEYS};
+ghost use Rattle.aged_tracker.specs.steps.Table.{Relists, SameBy, SameSize, Sets, Slots as SlotsName, belonging_at, except_links, has_room, held_at, held_by};
 ghost use Rattle.aged_tracker.specs.steps.Table.{last_at, limit_at, off, owner_of, prev_of, pushed, queue_by, slots_of};
 
 use crate::linked_lists::{empty_heads, front, is_first, is_last, push_back, unlink};
@@ -18,24 +18,28 @@ use conntrack::{
 use ip_headers::Tuple;
 use std::alloc::Global;
 
+/// A second in nanoseconds: no timeout is shorter.
+pub const SECOND: u64 = 1_000_000_000;
+
 /// The slots, which are numbered in the order of their creation, and a queue for each timeout. In
 /// `steps` calls count the slots that they read or write.
 #[derive(Drop)]
 pub struct AgedSlots {
     slots: Slots,
     queues: [Link; LISTS],
-    // The moment of the last packet of each queue's front, by which `expired` tells whether the
+    // The moment of the last packet of each queue's front, by which `live_until` tells whether the
     // front has expired.
     oldest: [Moment; LISTS],
     // The number of the next entry: 64 bits last longer than any run.
     next_serial: u64,
 }
 
-/// The timeout of a queue's entries in nanoseconds.
-fn limit_at(limits: Limits, queue: usize) -> u64
-    ensures { result ≡ limit_at limits queue }
+/// The timeout of a queue's entries in nanoseconds, which is a second at least.
+fn limit_at(limits: &Limits, queue: usize) -> u64
+    ensures limit { result ≡ limit_at limits.now queue }
+    ensures least { 0 < result }
 {
-    limit_in(limits, idle_at(queue))
+    limit_in(*limits, idle_at(queue))
 }
 
 /// The moment of the last packet of a queue's front.
@@ -131,6 +135,7 @@ impl AgedSlots {
     pub fn new(alloc: Global) -> Self
         ensures table { IsTable result }
         ensures held { held_by result ≡ [] }
+        ensures slots { (key : ℕ) → slots_of result key ≡ None }
         ensures room { has_room result ≡ false }
     {
         AgedSlots {
@@ -178,6 +183,8 @@ impl AgedSlots {
         ensures table { IsTable self.new }
         ensures held { held_by self.new
             ≡ touched_at id direction flags mark now (held_by self.old) }
+        ensures slots { Sets (slots_of self.old) (slots_of self.new) id.0
+            (option_map (touched direction flags mark now) (slots_of self.old id.0)) }
         ensures room { IsTrue (has_room self.old) → IsTrue (has_room self.new) }
         ensures steps { IsWithin (Some 7) steps.old steps.new }
     {
@@ -203,6 +210,8 @@ impl AgedSlots {
         ensures table { IsTable self.new }
         ensures held { held_by self.new
             ≡ held_by self.old ++ begun_with result connection flags ∷ [] }
+        ensures slots { Sets (slots_of self.old) (slots_of self.new) result.0
+            (Some (begun_with result connection flags)) }
         ensures free { slots_of self.old result.0 ≡ None }
         ensures few { result.0 < MAX_KEYS }
         ensures steps { IsWithin (Some 3) steps.old steps.new }
@@ -222,6 +231,7 @@ impl AgedSlots {
         requires is_held { IsSome (slots_of self.old id.0) }
         ensures table { IsTable self.new }
         ensures held { held_by self.new ≡ without id (held_by self.old) }
+        ensures slots { Sets (slots_of self.old) (slots_of self.new) id.0 None }
         ensures value { slots_of self.old id.0 ≡ Some result }
         ensures room { IsTrue (has_room self.old) → IsTrue (has_room self.new) }
         ensures steps { IsWithin (Some 5) steps.old steps.new }
@@ -237,42 +247,52 @@ impl AgedSlots {
         self.slots.remove(key, steps).held(key)
     }
 
-    /// The front of a queue, if it has expired.
-    fn expired_front(&self, limits: Limits, queue: usize, now: Moment) -> Option<ConnId>
+    /// Until when the entries of a queue are all live.
+    ///
+    /// # Errors
+    ///
+    /// The front, where it has expired.
+    fn queue_live_until(&self, limits: &Limits, queue: usize, now: Moment) -> Result<Moment, ConnId>
         requires table { IsTable self.now }
         requires range { queue < 5 }
-        ensures some { IfSome result (λ id.
-            IfSome (slots_of self.now id.0) (λ h. is_live limits now h ≡ false)
+        ensures live { IfOk result (λ until. (now ≤ until)
+            × ((moment : ℕ) → moment ≤ until
+            → IsLiveQueue limits.now (slots_of self.now) moment queue)) }
+        ensures expired { IfErr result (λ id.
+            IfSome (slots_of self.now id.0) (λ h. is_live limits.now now h ≡ false)
             × IsSome (slots_of self.now id.0)) }
-        ensures none { IfNone result (IsLiveQueue limits (slots_of self.now) now queue) }
     {
         match front(&self.queues, queue) {
-            None => None,
+            None => Ok(Moment::MAX),
             Some(key) => {
-                if now.saturating_sub(self.oldest[queue]) < limit_at(limits, queue) {
-                    None
+                let until = self.oldest[queue].saturating_add(limit_at(limits, queue) - 1);
+                if now <= until {
+                    Ok(until)
                 } else {
-                    Some(ConnId(key))
+                    Err(ConnId(key))
                 }
             }
         }
     }
 
-    /// An expired entry, if there is one.
-    pub fn expired(&self, limits: Limits, now: Moment) -> Option<ConnId>
+    /// Until when all entries are live, as far as that is less than a second ahead.
+    ///
+    /// # Errors
+    ///
+    /// An entry that has expired.
+    pub fn live_until(&self, limits: &Limits, now: Moment) -> Result<Moment, ConnId>
         requires { IsTable self.now }
-        ensures some { IfSome result (λ id.
-            IfSome (slots_of self.now id.0) (λ h. is_live limits now h ≡ false)
+        ensures live { IfOk result (λ until. (now ≤ until)
+            × (until < now + SECOND) × AreLiveUntil limits.now (slots_of self.now) until) }
+        ensures expired { IfErr result (λ id.
+            IfSome (slots_of self.now id.0) (λ h. is_live limits.now now h ≡ false)
             × IsSome (slots_of self.now id.0)) }
-        ensures none { IfNone result (IsAllLive limits (slots_of self.now) now) }
     {
+        let mut until = now.saturating_add(SECOND - 1);
         for queue in 0..LISTS {
-            let front = self.expired_front(limits, queue, now);
-            if front.is_some() {
-                return front;
-            }
+            until = until.min(self.queue_live_until(limits, queue, now)?);
         }
-        None
+        Ok(until)
     }
 
     /// Reserves memory for one more entry. If it is reserved already nothing changes.
@@ -285,6 +305,7 @@ impl AgedSlots {
         requires table { IsTable self.old }
         ensures table { IsTable self.new }
         ensures held { held_by self.new ≡ held_by self.old }
+        ensures slots { (key : ℕ) → slots_of self.new key ≡ slots_of self.old key }
         ensures room { OnOk result (IsTrue (has_room self.new)) }
         ensures kept { IsTrue (has_room self.old) → IsTrue (has_room self.new) }
         ensures spared { IsTrue (has_room self.old) → (self.new ≡ self.old) × IsOk result }

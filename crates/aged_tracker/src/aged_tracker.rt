@@ -1,9 +1,9 @@
 //! A conntrack table whose calls count few visited slots.
-ghost use Rattle.std.specs.Prelude.{◌≡◌, [], IsTrue, Some, false};
+ghost use Rattle.std.specs.Prelude.{◌≡◌, ◌+◌, ◌<◌, ◌≤◌, [], IsTrue, Some, false};
 ghost use Rattle.conntrack.specs.ConntrackEntry.{belongs_in};
 ghost use Rattle.conntrack.specs.TableEntries.{IsWithin, has_distinct_ids, have_disjoint_tuples, live_at};
 
-use crate::aged_slots::AgedSlots;
+use crate::aged_slots::{AgedSlots, SECOND};
 use crate::tuple_index::TupleIndex;
 use box_file::Limits;
 use conntrack::laws::independent_of_ids;
@@ -31,6 +31,10 @@ pub struct AgedTracker {
     // Whether that was so of the last packet that had an entry: packets in no such order don't pay for
     // guesses.
     was_likely: bool,
+    // No entry has expired until this moment, nor at it: before it no queue is looked at.
+    live_until: Moment,
+    // When the queues were looked at last, less than a second before that.
+    looked_at: Moment,
 }
 
 impl Model for AgedTracker {
@@ -46,7 +50,7 @@ impl Model for AgedTracker {
       room = has_room t.slots && nat_lt 1 (room_in t.index);
     } };
 
-    ghost invariant = { λ t. IsConsistent t.slots (slot_in t.index) t.live };
+    ghost invariant = { λ t. IsConsistent t.slots (slot_in t.index) t.live t.limits t.live_until t.looked_at };
 }
 
 impl AgedTracker {
@@ -63,6 +67,8 @@ impl AgedTracker {
             limits: idle,
             likely: 0,
             was_likely: false,
+            live_until: 0,
+            looked_at: 0,
         }
     }
 
@@ -91,6 +97,19 @@ impl AgedTracker {
                 .belonging(key, &self.limits, tuple, flags, now, steps)
                 .unwrap_or(Belonging::NotFound),
         }
+    }
+}
+
+/// Keeps until when no entry has expired, after a packet of one at a moment: that expires a second
+/// later at the earliest, as no timeout is shorter. Moments don't fall, or else nothing is known.
+#[inline(always)]
+fn note_packet(live_until: &mut Moment, looked_at: Moment, now: Moment)
+    requires { live_until.old < looked_at + SECOND }
+    ensures sooner { live_until.new ≤ live_until.old }
+    ensures second { live_until.new < now + SECOND }
+{
+    if now < looked_at {
+        *live_until = 0;
     }
 }
 
@@ -132,6 +151,7 @@ impl Tracker for AgedTracker {
         let follower = self.slots.touch(id, direction, flags, mark, now, steps);
         self.was_likely = id.0 == self.likely;
         self.likely = follower.unwrap_or(self.likely);
+        note_packet(&mut self.live_until, self.looked_at, now);
     }
 
     fn reserve_one(&mut self) -> Result<(), Memory> {
@@ -156,6 +176,7 @@ impl Tracker for AgedTracker {
         self.index.insert(connection.original, key, steps);
         self.index.insert(connection.reply, key, steps);
         self.live += 1;
+        note_packet(&mut self.live_until, self.looked_at, connection.last);
         Ok(id)
     }
 
@@ -168,9 +189,16 @@ impl Tracker for AgedTracker {
     }
 
     fn age(&mut self, now: Moment, steps: &mut Steps) -> Option<Aged> {
-        match self.slots.expired(self.limits, now) {
-            None => None,
-            Some(id) => Some(self.end(id, steps)),
+        if now <= self.live_until {
+            return None;
+        }
+        match self.slots.live_until(&self.limits, now) {
+            Ok(until) => {
+                self.live_until = until;
+                self.looked_at = now;
+                None
+            }
+            Err(id) => Some(self.end(id, steps)),
         }
     }
 

@@ -354,6 +354,10 @@ abbrev pub IsAllLive : Limits → (ℕ → Option ConntrackEntry) → ℕ → Ty
 IsAllLive limits slots now =
     (key : ℕ) (h : ConntrackEntry) → slots key ≡ Some h → is_live limits now h ≡ true
 
+-- all entries are live until a moment, and at it
+abbrev pub AreLiveUntil : Limits → (ℕ → Option ConntrackEntry) → ℕ → Type 0
+AreLiveUntil limits slots until = (now : ℕ) → now ≤ until → IsAllLive limits slots now
+
 -- ---- the index from incoming tuples to slots
 
 abbrev pub slot_in : TupleIndex → Tuple → Option ℕ
@@ -374,9 +378,11 @@ pub record IsIndexed (held : List ConntrackEntry) (at : Tuple → Option ℕ) (l
   pub apart : have_disjoint_tuples held ≡ true
   pub count : live ≡ length held
 
-pub record IsConsistent (slots : AgedSlots) (at : Tuple → Option ℕ) (live : ℕ) : Type 0 where
+pub record IsConsistent (slots : AgedSlots) (at : Tuple → Option ℕ) (live : ℕ) (limits : Limits) (until looked_at : ℕ) : Type 0 where
   pub table : IsTable slots
   pub indexed : IsIndexed (held_by slots) at live
+  pub lasting : AreLiveUntil limits (slots_of slots) until
+  pub soon : until < looked_at + 1000000000
 
 -- the direction of a packet, if its tuple is an incoming tuple of the entry
 abbrev pub direction_in : Tuple → ConntrackEntry → Option Direction

@@ -59,3 +59,6 @@ returns-clause-table c =
 
 pub returns-clause-held : goal.returns-clause-held
 returns-clause-held c = grind (arith, add-one, held_begun, c.requires.table, writes, numbered, c.fill-key.ensures.free, made)
+
+pub returns-clause-slots : goal.returns-clause-slots
+returns-clause-slots c = let at = (goal.at.returns-clause-slots c).After-push_back in rw (made at) at (begun at)

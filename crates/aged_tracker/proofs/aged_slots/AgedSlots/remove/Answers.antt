@@ -50,3 +50,6 @@ returns-clause-held c =
 
 pub returns-clause-value : goal.returns-clause-value
 returns-clause-value c = value (goal.at.returns-clause-value c).After-remove ∙ ap Some (sym c.held.ensures)
+
+pub returns-clause-slots : goal.returns-clause-slots
+returns-clause-slots c = sets c.args.self.now c.requires.table _ c.args.id.0 None (writes (goal.at.returns-clause-slots c).After-remove)

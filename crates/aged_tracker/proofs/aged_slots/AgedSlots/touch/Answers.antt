@@ -77,3 +77,9 @@ returns-clause-held c =
     (touched_at c.args.id c.args.direction c.args.flags c.args.mark c.args.now) refl
     (λ o held. elim (option_cases o) [ inl none ↦ rw none refl | inr x ↦ rw x.1 refl ]) refl
     (λ x d. rw (ne_eqb x.id.0 c.args.id.0 d) refl) (rw (eq-eqb c.args.id.0 c.args.id.0 refl) refl) (λ is. sym (ap serial_by (slot at).1))
+
+pub returns-clause-slots : goal.returns-clause-slots
+returns-clause-slots c =
+    let at = (goal.at.returns-clause-slots c).After-touch-queue in
+    rw (ap (option_map (held_of c.args.id.0)) (slot at).1)
+    (sets c.args.self.now c.requires.table _ c.args.id.0 _ (writes at c.requeue.new.slots c.requeue.ensures.except_links))

@@ -1,6 +1,7 @@
 use Rattle.aged_tracker.proofs.Names.{Some, ap, arith, begun_with, cond, false, has_id, held_by, is_some, is_taken, same_tuple, sym, ◌∙◌, ◌≡◌}
 use Rattle.aged_tracker.proofs.Index.{has_as, indexed_begun, not_both, taken_as}
 use Rattle.aged_tracker.proofs.aged_tracker.AgedTrackerTracker.begin.Goals.{After-insert-id, After-is_some}
+use Rattle.aged_tracker.proofs.Order.{lasting}
 use Rattle.aged_tracker.proofs.aged_tracker.AgedTrackerTracker.begin.Goals as goal
 
 taken : (c : After-is_some) → is_taken c.args.connection.reply (held_by c.self.inside.slots) ≡ c.is_some.result
@@ -21,6 +22,8 @@ invariant_of-self c = record {
       (taken (goal.at.invariant_of-self c).After-is_some ∙ c.if-is_some.false)
       (λ q. c.insert-2.ensures.slots q ∙ ap (cond (same_tuple c.args.connection.reply q) (Some c.insert-id.result.0))
       (c.insert.ensures.slots q)));
+  lasting = lasting c.self.inside.limits c.insert-id.ensures.slots c.self.invariant.lasting c.note_packet.ensures.sooner c.note_packet.ensures.second;
+  soon = omega (arith, c.note_packet.ensures.sooner, c.self.invariant.soon);
 }
 
 pub returns-clause-fresh : goal.returns-clause-fresh

@@ -1,8 +1,13 @@
-use Rattle.aged_tracker.proofs.Names.{◌∙◌}
+use Rattle.aged_tracker.proofs.Names.{sym, ◌∙◌}
 use Rattle.aged_tracker.proofs.aged_tracker.AgedTrackerTracker.reserve_one.Goals as goal
 
 pub invariant_of-self : goal.invariant_of-self
-invariant_of-self c = record { table = c.reserve_one.ensures.table; indexed = rw c.reserve_one.ensures.held c.self.invariant.indexed }
+invariant_of-self c = record {
+  table = c.reserve_one.ensures.table;
+  indexed = rw c.reserve_one.ensures.held c.self.invariant.indexed;
+  lasting = λ moment within key h is. c.self.invariant.lasting moment within key h (sym (c.reserve_one.ensures.slots key) ∙ is);
+  soon = c.self.invariant.soon;
+}
 
 pub invariant_of-self-2 : goal.invariant_of-self-2
 invariant_of-self-2 c =
@@ -15,4 +20,6 @@ invariant_of-self-2 c =
         apart = was.apart;
         count = was.count;
       });
+      lasting = λ moment within key h is. c.self.invariant.lasting moment within key h (sym (c.reserve_one.ensures.slots key) ∙ is);
+      soon = c.self.invariant.soon;
     }
