@@ -11,8 +11,8 @@ mod vocabulary;
 
 pub use near::{changes, nearest};
 pub use sentences::{
-    Advice, DID_YOU_MEAN, DID_YOU_MEAN_ONE_OF, Gap, NO_GAP, filled, fixed, greatest_is, names_are,
-    no_value, one_of, with_text, with_texts, write_this,
+    Advice, DID_YOU_MEAN, DID_YOU_MEAN_ONE_OF, Gap, NO_GAP, filled, fixed, greatest_is,
+    groups_advice, no_value, one_of, with_text, with_texts, with_words, write_this,
 };
-pub use unread::{Place, left_out};
-pub use vocabulary::{Kind, kinds, otherwise, words_of};
+pub use unread::{COMMENT_MARK, NO_VARIABLES, OF_IPTABLES, OF_JSON, ONLY_IPV4, Place, left_out};
+pub use vocabulary::{first_of, kinds, lists, otherwise, words_of};

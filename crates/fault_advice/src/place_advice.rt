@@ -4,7 +4,7 @@ use crate::stop::Stop;
 use crate::token_advice::token_advice;
 use crate::word_advice::put_syntax_advice;
 use fault_location::{TextPlace, UnreadablePart};
-use fault_places::{Words, bytes_of, rest_from};
+use fault_places::{Span, Words, bytes_of, position_at, rest_from, shown};
 use nft_lexer::LexFault;
 use nft_parser::TextFault;
 use std::alloc::{AllocError, Global};
@@ -37,9 +37,21 @@ fn put_token_advice(
     offset: usize,
     lines: &mut String,
 ) -> Result<(), AllocError> {
+    if offset > text.len() {
+        return Ok(());
+    }
     let rest = rest_from(text, offset);
     let words = Words::of(alloc, text, rest)?;
-    match token_advice(fault, bytes_of(text, rest), words.get(0)) {
+    let before = Span {
+        start: position_at(text, offset).start,
+        end: offset,
+    };
+    match token_advice(
+        fault,
+        shown(text, before),
+        bytes_of(text, rest),
+        words.get(0),
+    ) {
         Some(advice) => advice.put(alloc, lines),
         None => Ok(()),
     }

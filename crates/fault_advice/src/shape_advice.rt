@@ -1,7 +1,8 @@
 //! What to do about words that aren't read, or don't go together.
 use crate::stop::Stop;
 use advice::{
-    Advice, Gap, NO_GAP, Place, filled, fixed, left_out, with_text, with_texts, write_this,
+    Advice, COMMENT_MARK, Gap, NO_GAP, OF_IPTABLES, ONLY_IPV4, Place, filled, fixed, groups_advice,
+    left_out, lists, with_text, with_texts, with_words, write_this,
 };
 use fault_places::{Level, OpenBrace, Span, Words, bytes_of, position_at, rest_from, shown, up_to};
 use std::alloc::{AllocError, Global};
@@ -78,14 +79,28 @@ pub fn left_out_advice<'a>(stop: &Stop<'a>) -> Option<Advice<'a>> {
 pub fn shape_advice<'a>(stop: &Stop<'a>) -> Option<Advice<'a>> {
     let (before, here) = (stop.before(1), stop.here());
     let unread = unread_target(stop.before(2), before, here).or(unread_order(stop));
-    match misplaced(stop).or(unread) {
+    match other_language(stop).or(misplaced(stop)).or(unread) {
         Some(sentence) => Some(fixed(sentence)),
-        None => pair_advice(stop, before, here),
+        None => groups_advice(here).or(pair_advice(stop, before, here)),
     }
 }
 
+/// What to do about words of another language than nft's.
+fn other_language(stop: &Stop<'_>) -> Option<&'static str> {
+    let (before, here) = (stop.before(1), stop.here());
+    if here == "/" && stop.words.get(stop.at.saturating_add(1)) == "/" {
+        return Some(COMMENT_MARK);
+    }
+    let is_option = before == "-" && matches!(here.as_bytes(), [b'-'] | [b'a'..=b'z']);
+    let is_line = stop.at == 0 && lists("- : iptables iptables-restore COMMIT", here);
+    if stop.unreadable.level != Level::Sets && (is_option || is_line) {
+        return Some(OF_IPTABLES);
+    }
+    None
+}
+
 /// What to do about the word at the place behind the one before it.
-fn pair_advice<'a>(stop: &Stop<'a>, before: &str, here: &'a str) -> Option<Advice<'a>> {
+fn pair_advice<'a>(stop: &Stop<'a>, before: &'a str, here: &'a str) -> Option<Advice<'a>> {
     match before {
         "/" if here.find('.').is_some() => Some(length_advice(here)),
         "to" if stop.words.has_before(stop.at, "masquerade") => Some(with_text(
@@ -94,8 +109,35 @@ fn pair_advice<'a>(stop: &Stop<'a>, before: &str, here: &'a str) -> Option<Advic
         )),
         "not" => Some(write_this("!=")),
         "to" | "chain" => call_advice(stop.before(2), here),
-        _ => None,
+        _ => family_advice(stop, before),
     }
+}
+
+/// What to do about a word between `table` and a name.
+fn family_advice<'a>(stop: &Stop<'a>, family: &'a str) -> Option<Advice<'a>> {
+    if stop.at != 2 || stop.words.get(0) != "table" || stop.words.get(3) != "{" {
+        return None;
+    }
+    let gaps = [Gap::Text(family), Gap::Listed("inet ip"), NO_GAP, NO_GAP];
+    Some(filled("`{}` is no family: the families are {}.", gaps))
+}
+
+/// What to do about two names behind a selector of interfaces.
+pub fn names_advice<'a>(stop: &Stop<'a>) -> Option<Advice<'a>> {
+    let (name, next) = (stop.before(1), stop.here());
+    if !lists("iifname oifname iif oif", stop.before(2)) || !is_name(name) || !is_name(next) {
+        return None;
+    }
+    let (name, next) = (Gap::Text(name), Gap::Text(next));
+    Some(filled(
+        "Write `{ {}, {} }` for both names, or what is missing before `{}`, as `jump {}`.",
+        [name, next, next, next],
+    ))
+}
+
+/// Whether a word is a name or a string.
+fn is_name(word: &str) -> bool {
+    matches!(word.as_bytes(), [b'a'..=b'z' | b'A'..=b'Z' | b'_' | b'"', ..])
 }
 
 /// What to do about a word between `jump` or `goto` and the name of a chain.
@@ -113,14 +155,13 @@ fn length_advice<'a>(mask: &str) -> Advice<'a> {
         let bits = group.parse::<u8>().unwrap_or(0);
         length = length.saturating_add(bits.count_ones());
     }
-    let length = Gap::Number(length as u64);
-    filled("Write `/{}`.", [length, NO_GAP, NO_GAP, NO_GAP])
+    with_words("Write `/{}`.", Gap::Number(length as u64))
 }
 
 /// What to do about an address of IPv6, and about what stands in a chain or a table in a wrong place.
 fn misplaced(stop: &Stop<'_>) -> Option<&'static str> {
     if has_many_colons(run_around(stop.text, stop.offset)) {
-        return Some("IPv4 alone: take the rule out, no packet can meet it.");
+        return Some(ONLY_IPV4);
     }
     match (stop.words.get(0), stop.here()) {
         ("chain" | "set" | "map", _) if stop.unreadable.level == Level::Tables => {
@@ -142,6 +183,9 @@ fn unread_target(second: &str, before: &str, here: &str) -> Option<&'static str>
         }
         ("to", _, "-") => Some("Write one address: NAT to a range isn't read."),
         (":", _, "-") => Some("Write one port: `dnat` to a range of them isn't read."),
+        ("/", _, "-") | ("-", _, "/") => Some(
+            "The ends of a range have no `/`: write one prefix, or two addresses with `-` between them.",
+        ),
         _ => None,
     }
 }

@@ -64,15 +64,7 @@ impl<'a> Stop<'a> {
 
     /// Whether a brace is open at the place.
     pub fn is_in_braces(&self) -> bool {
-        let mut open = 0usize;
-        for number in 0..self.at {
-            match self.words.get(number) {
-                "{" => open = open.saturating_add(1),
-                "}" => open = open.saturating_sub(1),
-                _ => {}
-            }
-        }
-        open > 0
+        open_braces(&self.words, self.at) > 0
     }
 
     /// What stands before the place.
@@ -115,17 +107,18 @@ impl<'a> Stop<'a> {
         let pieces = [before, blank, word.as_bytes(), blank, next.as_bytes()];
         let prefix = pieces.concat(self.alloc)?;
         let words = Words::of(self.alloc, &prefix, rest_from(&prefix, 0))?;
-        wrapper.is_prefix(self.alloc, &prefix, open_braces(&words))
+        wrapper.is_prefix(self.alloc, &prefix, open_braces(&words, words.len()))
     }
 
-    /// Those of some words that the grammar allows at the place, with another one behind them.
+    /// Those of some words, with a blank between two, that the grammar allows at the place, with another
+    /// one behind them.
     pub fn allowed_of(
         &self,
-        words: &[&'static str],
+        words: &'static str,
         next: &str,
     ) -> Result<Vec<&'static str>, AllocError> {
         let mut allowed = Vec::new(self.alloc);
-        for &word in words {
+        for word in words.split(' ') {
             if self.allows(word, next)? {
                 allowed.push(word)?;
             }
@@ -136,10 +129,10 @@ impl<'a> Stop<'a> {
     /// The first of them.
     pub fn first_allowed(
         &self,
-        words: &[&'static str],
+        words: &'static str,
         next: &str,
     ) -> Result<Option<&'static str>, AllocError> {
-        for &word in words {
+        for word in words.split(' ') {
             if self.allows(word, next)? {
                 return Ok(Some(word));
             }

@@ -1,9 +1,20 @@
 //! What to do about a word that is no token.
-use advice::{Advice, fixed, with_text};
+use advice::{
+    Advice, COMMENT_MARK, NO_VARIABLES, OF_IPTABLES, OF_JSON, ONLY_IPV4, fixed, with_text,
+};
 use nft_lexer::LexFault;
 
-/// What to do about a lexical fault, where these bytes are left, which begin with a word.
-pub fn token_advice<'a>(fault: LexFault, rest: &[u8], word: &'a str) -> Option<Advice<'a>> {
+/// What to do about a lexical fault, where these bytes are left, which begin with a word; the line
+/// has others before them.
+pub fn token_advice<'a>(
+    fault: LexFault,
+    before: &str,
+    rest: &[u8],
+    word: &'a str,
+) -> Option<Advice<'a>> {
+    if let Some(sentence) = other_language(before, rest) {
+        return Some(fixed(sentence));
+    }
     match fault {
         LexFault::Byte { .. } => Some(fixed(byte_advice(rest))),
         LexFault::OpenString { .. } => Some(fixed("Close it with `\"` on this line.")),
@@ -12,16 +23,29 @@ pub fn token_advice<'a>(fault: LexFault, rest: &[u8], word: &'a str) -> Option<A
     }
 }
 
+/// What to do about a line of another language than nft's.
+fn other_language(before: &str, rest: &[u8]) -> Option<&'static str> {
+    let line = before.trim_start();
+    match (line.as_bytes(), rest) {
+        ([b'{' | b'"', ..], [b'[', ..]) => Some(OF_JSON),
+        ([], [b'*', b'a'..=b'z', ..]) | ([b':' | b'-', ..], _) => Some(OF_IPTABLES),
+        (_, [b'*', ..]) if line.ends_with("/") => Some(COMMENT_MARK),
+        _ if line.starts_with("iptables") => Some(OF_IPTABLES),
+        _ if line.starts_with("//") || line.contains(" //") => Some(COMMENT_MARK),
+        _ => None,
+    }
+}
+
 /// What to do about a byte that begins no token.
 fn byte_advice(rest: &[u8]) -> &'static str {
     match rest {
-        [b'$', ..] => "Variables aren't read: take what `nft list ruleset` prints.",
+        [b'$', ..] => NO_VARIABLES,
         [b'*', ..] => {
             "Write it in quotes behind a name, as `\"ppp*\"`. The element `*` isn't read: leave it out, and add a rule for the rest."
         }
         [b'!', ..] => "Write `!=`.",
         [b'\'', ..] | [b'`', ..] => "Write `\"`.",
-        [b'[', ..] | [b']', ..] => "IPv4 alone: write an address as `192.0.2.1`.",
+        [b'[', ..] | [b']', ..] => ONLY_IPV4,
         [b'\\', ..] => "Nothing may follow `\\` on its line.",
         [0x80..=0xff, ..] => letter_advice(rest),
         _ => "Take it out.",

@@ -1,9 +1,9 @@
 //! What to do where the grammar doesn't allow a word: the word that may be meant, or is missing.
-use crate::shape_advice::{is_list, left_out_advice, put_list_advice, shape_advice};
+use crate::shape_advice::{is_list, left_out_advice, names_advice, put_list_advice, shape_advice};
 use crate::stop::Stop;
 use advice::{
-    Advice, DID_YOU_MEAN, DID_YOU_MEAN_ONE_OF, Gap, Kind, NO_GAP, changes, filled, kinds, one_of,
-    otherwise, with_text, with_texts, words_of, write_this,
+    Advice, DID_YOU_MEAN, DID_YOU_MEAN_ONE_OF, Gap, NO_GAP, changes, filled, first_of, kinds,
+    lists, one_of, otherwise, with_text, with_texts, words_of, write_this,
 };
 use std::alloc::{AllocError, Global};
 
@@ -11,16 +11,14 @@ use std::alloc::{AllocError, Global};
 const MOST_LISTED: usize = 15;
 
 /// Marks that may be missing before a word.
-static MARKS: [&str; 7] = [";", ",", "}", "=", ":", "{", "@"];
+const MARKS: &str = "; , } = : { @";
 
 /// Words that may be missing before a word.
-static MISSING: [&str; 16] = [
-    "to", "hook", "priority", "type", "prefix", "state", "dport", "saddr", "ct", "ip", "tcp",
-    "meta", "set", "bytes", "packets", "map",
-];
+const MISSING: &str =
+    "to hook priority type prefix state dport saddr ct ip tcp meta set bytes packets map";
 
 /// Values of some types.
-static VALUES: [&str; 3] = ["1", "192.0.2.1", "\"x\""];
+const VALUES: &str = "1 192.0.2.1 \"x\"";
 
 /// Writes what to do at the place at which the grammar stops, if it is known.
 pub fn put_syntax_advice(stop: &Stop<'_>, lines: &mut String) -> Result<(), AllocError> {
@@ -38,6 +36,9 @@ pub fn put_syntax_advice(stop: &Stop<'_>, lines: &mut String) -> Result<(), Allo
 
 /// Writes which word is missing, or one too many; or else which may stand at the place.
 fn put_count_advice(stop: &Stop<'_>, lines: &mut String) -> Result<(), AllocError> {
+    if let Some(advice) = names_advice(stop) {
+        return advice.put(stop.alloc, lines);
+    }
     if let Some(advice) = count_advice(stop)? {
         return advice.put(stop.alloc, lines);
     }
@@ -48,13 +49,13 @@ fn put_count_advice(stop: &Stop<'_>, lines: &mut String) -> Result<(), AllocErro
     }
 }
 
-/// A word that may be meant by the one at the place: of a kind one that is so many changes away, of
-/// none one that is written here in its place.
+/// A word that may be meant by the one at the place: of words of a kind one that is so many changes
+/// away, of none one that is written here in its place.
 #[derive(Clone, Copy)]
 struct Meant {
     word: &'static str,
     changes: usize,
-    kind: Option<&'static Kind>,
+    kind: Option<&'static str>,
 }
 
 /// The first one of the words that may be meant which the grammar allows.
@@ -73,7 +74,7 @@ fn words_meant(stop: &Stop<'_>) -> Result<Vec<Meant>, AllocError> {
     let mut found = Vec::new(stop.alloc);
     add_others(stop.here(), &mut found)?;
     let here = stop.here().to_ascii_lowercase(stop.alloc)?;
-    for kind in kinds() {
+    for &kind in &kinds(stop.alloc)? {
         add_near(stop.alloc, here.as_str(), kind, &mut found)?;
     }
     found.sort_by_key(|meant| meant.changes)?;
@@ -82,8 +83,8 @@ fn words_meant(stop: &Stop<'_>) -> Result<Vec<Meant>, AllocError> {
 
 /// Adds what stands here for a word that others write.
 fn add_others(here: &str, found: &mut Vec<Meant>) -> Result<(), AllocError> {
-    for (written, instead) in otherwise() {
-        if *written == here {
+    for (instead, written) in otherwise() {
+        if lists(written, here) {
             found.push(Meant {
                 word: instead,
                 changes: 0,
@@ -98,10 +99,10 @@ fn add_others(here: &str, found: &mut Vec<Meant>) -> Result<(), AllocError> {
 fn add_near(
     alloc: Global,
     written: &str,
-    kind: &'static Kind,
+    kind: &'static str,
     found: &mut Vec<Meant>,
 ) -> Result<(), AllocError> {
-    for word in kind.words() {
+    for word in kind.split(' ') {
         if let Some(changes) = changes(alloc, written, word)? {
             found.push(Meant {
                 word,
@@ -118,7 +119,7 @@ fn put_meant(stop: &Stop<'_>, meant: Meant, lines: &mut String) -> Result<(), Al
     let Some(kind) = meant.kind else {
         return write_this(meant.word).put(stop.alloc, lines);
     };
-    let others = stop.allowed_of(kind.words(), "")?;
+    let others = stop.allowed_of(kind, "")?;
     near_advice(meant.word, &others).put(stop.alloc, lines)
 }
 
@@ -136,10 +137,10 @@ fn near_advice<'a>(word: &'a str, others: &'a [&'a str]) -> Advice<'a> {
 /// What is missing before the word at the place, or is one too many.
 fn count_advice<'a>(stop: &Stop<'a>) -> Result<Option<Advice<'a>>, AllocError> {
     let here = stop.here();
-    if begins_statement(here) && stop.first_allowed(&VALUES, here)?.is_some() {
+    if begins_statement(here) && stop.first_allowed(VALUES, here)?.is_some() {
         return Ok(Some(value_before(here)));
     }
-    let marks = stop.allowed_of(&MARKS, here)?;
+    let marks = stop.allowed_of(MARKS, here)?;
     match missing_mark(stop.before(1), here, &marks) {
         Some(advice) => Ok(Some(advice)),
         None => missing_word(stop),
@@ -169,10 +170,10 @@ fn missing_word<'a>(stop: &Stop<'a>) -> Result<Option<Advice<'a>>, AllocError> {
     if here.is_empty() {
         return surplus_advice(stop);
     }
-    if let Some(word) = stop.first_allowed(&MISSING, here)? {
+    if let Some(word) = stop.first_allowed(MISSING, here)? {
         return Ok(Some(expected_word(word, here)));
     }
-    if stop.first_allowed(&VALUES, here)?.is_some() {
+    if stop.first_allowed(VALUES, here)?.is_some() {
         return Ok(Some(value_before(here)));
     }
     surplus_advice(stop)
@@ -205,7 +206,7 @@ fn surplus_advice<'a>(stop: &Stop<'a>) -> Result<Option<Advice<'a>>, AllocError>
 fn expected_advice<'a>(stop: &Stop<'a>, words: &'a [&'a str]) -> Option<Advice<'a>> {
     match words.len() {
         0 => None,
-        1..=MOST_LISTED => Some(one_of(words)),
+        1..=MOST_LISTED => Some(one_of(Gap::Words(words))),
         _ if stop.here().is_empty() => Some(something_behind(stop.before(1))),
         _ if stop.is_in_rule() => Some(with_text("No statement begins with `{}`.", stop.here())),
         _ => None,
@@ -215,30 +216,21 @@ fn expected_advice<'a>(stop: &Stop<'a>, words: &'a [&'a str]) -> Option<Advice<'
 /// The words that may stand at the place.
 fn expected_words(stop: &Stop<'_>) -> Result<Vec<&'static str>, AllocError> {
     let mut words = Vec::new(stop.alloc);
-    for kind in kinds() {
-        add_expected(stop, kind.words(), &mut words)?;
+    for &kind in &kinds(stop.alloc)? {
+        // Where the first one may stand.
+        if stop.allows(first_of(kind), "")? {
+            words.extend_from_slice(&stop.allowed_of(kind, "")?)?;
+        }
     }
     words.sort()?;
     words.dedup();
     Ok(words)
 }
 
-/// Adds those words of a kind that may stand at the place, if the first one may.
-fn add_expected(
-    stop: &Stop<'_>,
-    known: &[&'static str],
-    words: &mut Vec<&'static str>,
-) -> Result<(), AllocError> {
-    if stop.allows(known.first().copied().unwrap_or(""), "")? {
-        words.extend_from_slice(&stop.allowed_of(known, "")?)?;
-    }
-    Ok(())
-}
-
 /// Whether a word begins a statement.
 fn begins_statement(word: &str) -> bool {
     for kind in ["verdict", "statement", "header", "interface"] {
-        if words_of(kind).contains(&word) {
+        if lists(words_of(kind), word) {
             return true;
         }
     }

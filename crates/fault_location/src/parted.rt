@@ -42,18 +42,12 @@ impl<'a> Parted<'a> {
 
     /// The part of an index, where it lies in the text.
     pub fn part(&self, index: usize) -> Option<Span> {
-        match self.removed.get(index) {
-            Some(removed) => Some(removed.part),
-            None => None,
-        }
+        Some(self.removed.get(index)?.part)
     }
 
     /// Where the part of an index begins.
     pub fn start_of(&self, index: usize) -> Option<usize> {
-        match self.removed.get(index) {
-            Some(removed) => Some(removed.part.start),
-            None => None,
-        }
+        Some(self.part(index)?.start)
     }
 
     /// The text with no other parts than those of a range.

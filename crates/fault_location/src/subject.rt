@@ -5,7 +5,7 @@ use crate::faults::{box_fault, check_fault, is_same};
 use crate::parted::{PartRange, Parted};
 use box_file::BoxFault;
 use fault_places::{
-    Depth, Level, Span, Words, box_lines, bytes_of, elements, mask, rest_from, shown, spans,
+    Depth, Level, Span, Words, box_lines, bytes_of, elements, mask, rest_from, shown, spans, up_to,
 };
 use rule_check::CheckFault;
 use std::alloc::{AllocError, Global};
@@ -237,26 +237,18 @@ impl Subject<'_> {
         }
     }
 
-    /// The fault of a ruleset.
-    fn of_rules(self) -> Option<CheckFault> {
-        match self {
-            Subject::Rules { fault, .. } => Some(fault),
-            Subject::Box(_) => None,
-        }
-    }
-
     /// Whether the fault is mostly one of elements.
     fn is_of_elements(self) -> bool {
-        match self.of_rules() {
-            Some(fault) => is_of_elements(fault),
-            None => false,
+        match self {
+            Subject::Rules { fault, .. } => is_of_elements(fault),
+            Subject::Box(_) => false,
         }
     }
 
     fn is_contradiction(self) -> bool {
-        match self.of_rules() {
-            Some(fault) => is_same(fault, CheckFault::Contradiction),
-            None => false,
+        match self {
+            Subject::Rules { fault, .. } => is_same(fault, CheckFault::Contradiction),
+            Subject::Box(_) => false,
         }
     }
 
@@ -390,11 +382,7 @@ fn data_of(alloc: Global, text: &[u8], element: Span) -> Result<Option<Span>, Al
 
 /// The text with another one in the place of a part.
 fn replaced(alloc: Global, text: &[u8], part: Span, other: &str) -> Result<Vec<u8>, AllocError> {
-    let before = Span {
-        start: 0,
-        end: part.start,
-    };
-    let mut changed = bytes_of(text, before).to_vec(alloc)?;
+    let mut changed = bytes_of(text, up_to(rest_from(text, 0), part.start)).to_vec(alloc)?;
     changed.extend_from_slice(other.as_bytes())?;
     changed.extend_from_slice(bytes_of(text, rest_from(text, part.end)))?;
     Ok(changed)

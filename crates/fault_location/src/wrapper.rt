@@ -27,69 +27,15 @@ static TYPES: [&str; 3] = ["", "\ntype mark", "\ntype mark : mark"];
 /// A prefix of another part lacks nothing.
 static NOTHING: [&str; 1] = [""];
 
-/// Endings, one of which completes most prefixes that the grammar allows.
-static ENDINGS: [&str; 60] = [
-    "",
-    " 1",
-    " 1.2.3.4",
-    " syn",
-    " new",
-    " snat",
-    " x",
-    " \"a\"",
-    " accept",
-    " 1 }",
-    " x }",
-    " : 1",
-    " : accept",
-    " : accept }",
-    " 1 : accept }",
-    " \"a\" : accept }",
-    " : 1 }",
-    " 1 : 1 }",
-    " accept }",
-    " @s",
-    " @m",
-    " vmap @m",
-    " saddr 1.2.3.4",
-    " dport 1",
-    " type 1",
-    " mark 1",
-    " mark",
-    " saddr",
-    " dport",
-    " type",
-    " interval",
-    " map @m",
-    " saddr map @m",
-    " dport map @m",
-    " mark map @m",
-    " saddr @s",
-    " dport @s",
-    " mark @s",
-    " set 1",
-    " to 1.2.3.4",
-    " to : 1",
-    " packets 1 bytes 1",
-    " bytes 1",
-    " 1 bytes 1",
-    " syn == syn",
-    " == syn",
-    " ) == syn",
-    " syn ) == syn",
-    " syn )",
-    " )",
-    " filter hook input priority 0",
-    " hook input priority 0",
-    " input priority 0",
-    " priority 0",
-    " = { 1 }",
-    " mark : mark",
-    " {\n}",
-    " x {\n}",
-    " {\ntype mark\n}",
-    " {\ntype mark : mark\n}",
-];
+/// Endings, one of which completes most prefixes that the grammar allows, with `|` between two.
+const ENDINGS: &str =
+    "| 1| 1.2.3.4| syn| new| snat| x| \"a\"| accept| 1 }| x }| : 1| : accept| : accept }\
+    | 1 : accept }| \"a\" : accept }| : 1 }| 1 : 1 }| accept }| @s| @m| vmap @m| saddr 1.2.3.4| dport 1\
+    | type 1| mark 1| mark| saddr| dport| type| interval| map @m| saddr map @m| dport map @m| mark map @m\
+    | saddr @s| dport @s| mark @s| set 1| to 1.2.3.4| to : 1| packets 1 bytes 1| bytes 1| 1 bytes 1\
+    | syn == syn| == syn| ) == syn| syn ) == syn| syn )| )| filter hook input priority 0\
+    | hook input priority 0| input priority 0| priority 0| = { 1 }| mark : mark| {\n}| x {\n}\
+    | {\ntype mark\n}| {\ntype mark : mark\n}";
 
 /// The most words of a part whose prefixes are tried one by one; with more they are bisected.
 const MAX_LINEAR_WORDS: usize = 256;
@@ -187,7 +133,11 @@ impl Wrapper {
     /// Whether some ending completes a prefix of a part.
     fn continues(self, alloc: Global, text: &[u8], prefix: Span) -> Result<bool, AllocError> {
         let words = Words::of(alloc, text, prefix)?;
-        self.is_prefix(alloc, bytes_of(text, prefix), open_braces(&words))
+        self.is_prefix(
+            alloc,
+            bytes_of(text, prefix),
+            open_braces(&words, words.len()),
+        )
     }
 
     /// Whether some ending completes these bytes, which leave so many braces open.
@@ -211,7 +161,7 @@ impl Wrapper {
 
     /// Whether one of the endings completes a prefix.
     fn ends(self, alloc: Global, prefix: &[u8], closing: &str) -> Result<bool, AllocError> {
-        for ending in &ENDINGS {
+        for ending in ENDINGS.split('|') {
             if self.reads_with(alloc, prefix, ending, closing)? {
                 return Ok(true);
             }
@@ -220,10 +170,10 @@ impl Wrapper {
     }
 }
 
-/// How many braces words leave open.
-pub fn open_braces(words: &Words<'_>) -> usize {
+/// How many braces the words before a number leave open.
+pub fn open_braces(words: &Words<'_>, end: usize) -> usize {
     let mut open = 0usize;
-    for number in 0..words.len() {
+    for number in 0..end {
         match words.get(number) {
             "{" => open = open.saturating_add(1),
             "}" => open = open.saturating_sub(1),

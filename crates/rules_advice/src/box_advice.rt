@@ -1,12 +1,10 @@
 //! What to do about a fault of a box file.
+use crate::name_advice::known_names;
 use crate::names::interfaces;
-use advice::{Advice, DID_YOU_MEAN_ONE_OF, fixed, names_are};
+use advice::{Advice, DID_YOU_MEAN_ONE_OF, fixed};
 use box_file::BoxFault;
 use fault_places::{Span, shown};
 use std::alloc::{AllocError, Global};
-
-/// The first words of lines.
-static LINES: [&str; 4] = ["interface", "route", "default", "idle"];
 
 /// Writes what to do about the fault of a line of a box file.
 ///
@@ -55,10 +53,9 @@ fn form_advice<'a>(first: &'a str) -> Advice<'a> {
 
 /// What to do about a line that begins with a word that no line begins with.
 fn unknown_line<'a>(first: &'a str) -> Advice<'a> {
-    fixed("A line begins with `interface`, `route`, `default` or `idle`.").unless_near(
+    fixed("A line begins with `interface`, `route`, `default` or `idle`.").unless_one_of(
         first,
-        &LINES,
-        DID_YOU_MEAN_ONE_OF,
+        "interface route default idle",
     )
 }
 
@@ -66,7 +63,7 @@ fn unknown_line<'a>(first: &'a str) -> Advice<'a> {
 fn name_advice<'a>(line: &'a str, names: &'a [&'a str]) -> Advice<'a> {
     let mut fields = line.split_whitespace();
     let _kind = fields.next();
-    names_are("Interfaces of the box", names).unless_near(
+    known_names("Interfaces of the box", names).unless_near(
         fields.last().unwrap_or(""),
         names,
         DID_YOU_MEAN_ONE_OF,

@@ -5,15 +5,14 @@ use crate::name_advice::{
 };
 use crate::type_advice::type_advice;
 use crate::types::Types;
+use crate::unread_words::put_unread;
 use crate::value_advice::value_advice;
-use advice::{Advice, fixed, greatest_is, with_text, with_texts};
+use advice::{Advice, fixed, greatest_is, lists, with_text, with_texts};
 use rule_check::CheckFault;
 use std::alloc::{AllocError, Global};
 
 /// The words that begin a match.
-static MATCHES: [&str; 11] = [
-    "ip", "tcp", "udp", "th", "icmp", "meta", "ct", "iifname", "oifname", "iif", "oif",
-];
+const MATCHES: &str = "ip tcp udp th icmp meta ct iifname oifname iif oif";
 
 /// Writes what to do about a fault at an offset of a ruleset that can be parsed, if it is known.
 ///
@@ -41,6 +40,9 @@ fn put_advice(
 ) -> Result<(), AllocError> {
     let names = names_wanted(alloc, around, plant, fault)?;
     let types = Types::at(alloc, around)?;
+    if matches!(fault, CheckFault::WrongValue) && put_unread(alloc, around, &types, lines)? {
+        return Ok(());
+    }
     match check_advice(around, fault, &names, &types) {
         Some(advice) => advice.put(alloc, lines),
         None => Ok(()),
@@ -80,7 +82,7 @@ fn sentence_of(fault: CheckFault) -> &'static str {
             "`goto` adds no depth: write it where nothing follows in the caller.",
         CheckFault::TooCostly => "Call a chain once, or look the verdict up in a map by `vmap`.",
         CheckFault::MisplacedNatChain =>
-            "Write hook prerouting, output or postrouting, and a priority above -200, as `dstnat` or `srcnat`.",
+            "Chains of type nat stand at prerouting (priority `dstnat`), output (-100) and postrouting (`srcnat`), with a priority above -200.",
         _ => "It shares a number with an element before it: leave one out, or give both the same.",
     }
 }
@@ -123,7 +125,7 @@ fn surplus_advice<'a>(around: &Around<'a>, end: &'a str, number: usize) -> Advic
     if !moved.is_empty() {
         return with_texts("Write `{}` before `{}`, which ends the rule.", moved, end);
     }
-    let instead = if MATCHES.contains(&word) {
+    let instead = if lists(MATCHES, word) {
         "begin another one behind it, on a new line"
     } else {
         "take out what stands behind it"
@@ -141,7 +143,7 @@ fn moved_before<'a>(around: &Around<'a>, word: &'a str) -> &'a str {
 }
 
 fn too_large<'a>(around: &Around<'a>) -> Advice<'a> {
-    if ["packets", "bytes"].contains(&around.before(1)) {
+    if lists("packets bytes", around.before(1)) {
         return greatest_is("start of a counter", 4_611_686_018_427_387_904);
     }
     fixed("A ruleset has at most 16,384 rules and 65,536 elements.")

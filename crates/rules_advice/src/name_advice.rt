@@ -2,8 +2,8 @@
 use crate::around::Around;
 use crate::names::{Declared, Kind, interfaces};
 use advice::{
-    Advice, DID_YOU_MEAN, DID_YOU_MEAN_ONE_OF, Gap, NO_GAP, filled, fixed, names_are, with_text,
-    with_texts,
+    Advice, DID_YOU_MEAN, DID_YOU_MEAN_ONE_OF, Gap, NO_GAP, filled, fixed, lists, with_text,
+    with_texts, with_words,
 };
 use fault_places::position_at;
 use rule_check::CheckFault;
@@ -49,8 +49,10 @@ pub fn duplicate_advice<'a>(around: &Around<'a>) -> Option<Advice<'a>> {
         return None;
     }
     let line = Gap::Number(position_at(around.text, start).line as u64);
-    let sentence = "Line {} has that name: give this one a name of its own.";
-    Some(filled(sentence, [line, NO_GAP, NO_GAP, NO_GAP]))
+    Some(with_words(
+        "Line {} has that name: give this one a name of its own.",
+        line,
+    ))
 }
 
 /// Where the declaration begins that has the same name before one.
@@ -104,20 +106,45 @@ fn no_set<'a>(names: &'a [&'a str]) -> Advice<'a> {
 /// The one of these interfaces that may be meant.
 pub fn interface_advice<'a>(around: &Around<'a>, names: &'a [&'a str]) -> Advice<'a> {
     let name = unquoted(around.here());
-    let unknown = match around.before(1) {
-        selector @ ("iif" | "oif") => with_texts(
+    let unknown = match selector_before(around) {
+        Some(selector) if around.before(1) == selector => with_texts(
             "Write `{}name \"{}\"`: it compares names, and asks for no interface on the box.",
             selector,
             name,
         ),
-        _ => known_names("Interfaces of the box", names),
+        Some(selector) => filled(
+            "Interfaces of the box: {}. `{}name` in place of `{}` compares names, and asks for none of them.",
+            [
+                known(names),
+                Gap::Text(selector),
+                Gap::Text(selector),
+                NO_GAP,
+            ],
+        ),
+        None => known_names("Interfaces of the box", names),
     };
     unknown.unless_near(name, names, DID_YOU_MEAN_ONE_OF)
 }
 
+/// The selector of interfaces by their index before the name of one.
+fn selector_before<'a>(around: &Around<'a>) -> Option<&'a str> {
+    let is_name = around.here().parse::<u64>().is_err();
+    for places in 1..around.at.saturating_add(1) {
+        let word = around.before(places);
+        if is_name && lists("iif oif", word) {
+            return Some(word);
+        }
+    }
+    None
+}
+
 /// The names of a kind, up to some number.
-fn known_names<'a>(kind: &'a str, names: &'a [&'a str]) -> Advice<'a> {
-    names_are(kind, names.get(..MOST_NAMES).unwrap_or(names))
+pub fn known_names<'a>(kind: &'a str, names: &'a [&'a str]) -> Advice<'a> {
+    filled("{}: {}.", [Gap::Text(kind), known(names), NO_GAP, NO_GAP])
+}
+
+fn known<'a>(names: &'a [&'a str]) -> Gap<'a> {
+    Gap::Words(names.get(..MOST_NAMES).unwrap_or(names))
 }
 
 /// A word without the quotes around it.

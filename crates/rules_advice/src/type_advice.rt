@@ -1,20 +1,18 @@
 //! What to do about types that don't fit.
 use crate::around::Around;
 use crate::names::{Declared, Kind};
-use crate::types::{Type, Types};
+use crate::types::{Type, Types, values_of};
 use advice::{
-    Advice, DID_YOU_MEAN_ONE_OF, Gap, NO_GAP, filled, fixed, no_value, one_of, with_text, words_of,
+    Advice, Gap, NO_GAP, filled, fixed, groups_advice, lists, no_value, one_of, with_text, words_of,
 };
 
 /// What to do about types that don't fit, if it is known.
 pub fn type_advice<'a>(around: &Around<'a>, types: &'a Types) -> Option<Advice<'a>> {
     let set = around.set();
-    if around.before(1) == "@" {
-        return advice_on_set(around, set?, types);
-    }
     match set {
-        Some(_) => advice_on_element(around, types),
-        None => advice_on_rule(around, types),
+        _ if around.before(1) == "@" => advice_on_set(around, set?, types),
+        Some(_) => groups_advice(around.here()).or(advice_on_element(around, types)),
+        None => groups_advice(around.here()).or(advice_on_rule(around, types)),
     }
 }
 
@@ -40,15 +38,27 @@ fn advice_on_set<'a>(
 
 /// What is compared is of other types than the keys of a set or a map of this name.
 fn other_keys<'a>(name: &'a str, types: &'a Types) -> Advice<'a> {
-    filled(
-        "What is compared is {}, the keys of `@{}` are {}.",
-        [
-            Gap::Types(&types.compared),
-            Gap::Text(name),
-            Gap::Types(&types.keys),
-            NO_GAP,
-        ],
-    )
+    let (compared, keys) = (Gap::Types(&types.compared), Gap::Types(&types.keys));
+    match (types.compared.as_slice(), types.keys.as_slice()) {
+        ([of], [key]) if !is_number(*of) => filled(
+            "The keys of `@{}` are {}: compare {} with it, or declare another set, of `type {}`.",
+            [
+                Gap::Text(name),
+                keys,
+                Gap::Text(values_of(*key).1),
+                compared,
+            ],
+        ),
+        _ => filled(
+            "What is compared is {}, the keys of `@{}` are {}: declare another set, by `typeof`.",
+            [compared, Gap::Text(name), keys, NO_GAP],
+        ),
+    }
+}
+
+/// Whether a type is a number without a name.
+fn is_number(of: Type) -> bool {
+    of.starts_with("number")
 }
 
 /// What to do about the data of a map of this name.
@@ -81,7 +91,7 @@ fn advice_on_element<'a>(around: &Around<'a>, types: &Types) -> Option<Advice<'a
 
 /// What to do about the data of an element, which are to be of a type.
 fn advice_on_datum<'a>(around: &Around<'a>, data: Type) -> Advice<'a> {
-    if words_of("verdict").contains(&around.here()) {
+    if lists(words_of("verdict"), around.here()) {
         return no_value(data, "`: verdict` in the type for verdicts");
     }
     if around.before(1) == ":" {
@@ -113,7 +123,7 @@ fn advice_on_parts<'a>(around: &Around<'a>, of_type: usize) -> Option<Advice<'a>
 /// The verdict that may be meant.
 fn verdict_advice<'a>(around: &Around<'a>) -> Advice<'a> {
     let verdicts = words_of("verdict");
-    one_of(verdicts).unless_near(around.here(), verdicts, DID_YOU_MEAN_ONE_OF)
+    one_of(Gap::Listed(verdicts)).unless_one_of(around.here(), verdicts)
 }
 
 /// What to do about a rule that names no set.
@@ -127,9 +137,7 @@ fn advice_on_rule<'a>(around: &Around<'a>, types: &Types) -> Option<Advice<'a>> 
         ));
     }
     let of = types.compared.last().copied()?;
-    let is_ordered = ["ipv4_addr", "inet_service", "mark"].contains(&of)
-        || of.starts_with("number");
-    if is_ordered && has_order(around) {
+    if is_ordered(of) && has_order(around) {
         return Some(fixed(
             "An order compares with one value: write `==` before a range or a prefix.",
         ));
@@ -137,10 +145,15 @@ fn advice_on_rule<'a>(around: &Around<'a>, types: &Types) -> Option<Advice<'a>> 
     Some(with_text("{} has no order: compare with `==`, `!=` or a set.", of))
 }
 
+/// Whether the values of a type have an order.
+fn is_ordered(of: Type) -> bool {
+    lists("ipv4_addr inet_service mark", of) || is_number(of)
+}
+
 /// Whether a rule compares by an order up to the place.
 fn has_order(around: &Around<'_>) -> bool {
-    for mark in ["<", ">", "<=", ">="] {
-        if around.words.has_before(around.at, mark) {
+    for number in 0..around.at {
+        if lists("< > <= >=", around.words.get(number)) {
             return true;
         }
     }

@@ -1,6 +1,6 @@
 //! The types of what is compared, read off the words of a rule or a set.
 use crate::around::Around;
-use advice::words_of;
+use advice::{lists, words_of};
 use fault_places::Words;
 use std::alloc::{AllocError, Global};
 
@@ -13,49 +13,56 @@ pub const SHORT: Type = "number of 16 bits";
 
 pub const LONG: Type = "number of 32 bits";
 
-/// The selectors, of one or two words, and their types.
-static SELECTORS: [(&str, &str, Type); 29] = [
-    ("ip", "saddr", "ipv4_addr"),
-    ("ip", "daddr", "ipv4_addr"),
-    ("ip", "protocol", "inet_proto"),
-    ("ip", "ttl", BYTE),
-    ("ip", "length", SHORT),
-    ("tcp", "sport", "inet_service"),
-    ("tcp", "dport", "inet_service"),
-    ("tcp", "flags", "tcp_flag"),
-    ("udp", "sport", "inet_service"),
-    ("udp", "dport", "inet_service"),
-    ("th", "sport", "inet_service"),
-    ("th", "dport", "inet_service"),
-    ("icmp", "type", "icmp_type"),
-    ("meta", "l4proto", "inet_proto"),
-    ("meta", "length", LONG),
-    ("meta", "mark", "mark"),
-    ("meta", "nfproto", "nf_proto"),
-    ("meta", "iifname", "ifname"),
-    ("meta", "oifname", "ifname"),
-    ("meta", "iif", "iface_index"),
-    ("meta", "oif", "iface_index"),
-    ("iifname", "", "ifname"),
-    ("oifname", "", "ifname"),
-    ("iif", "", "iface_index"),
-    ("oif", "", "iface_index"),
-    ("ct", "state", "ct_state"),
-    ("ct", "direction", "ct_dir"),
-    ("ct", "mark", "mark"),
-    ("ct", "status", "ct_status"),
+/// The types that have selectors: those of one word, and those of two, by what they begin with; the words
+/// with a blank between two.
+static SELECTORS: [(Type, &str, &str); 18] = [
+    ("ipv4_addr", "ip", "saddr daddr"),
+    ("inet_proto", "ip", "protocol"),
+    (BYTE, "ip", "ttl"),
+    (SHORT, "ip", "length"),
+    ("inet_service", "tcp udp th", "sport dport"),
+    ("tcp_flag", "tcp", "flags"),
+    ("icmp_type", "icmp", "type"),
+    ("inet_proto", "meta", "l4proto"),
+    (LONG, "meta", "length"),
+    ("mark", "meta ct", "mark"),
+    ("nf_proto", "meta", "nfproto"),
+    ("ifname", "meta", "iifname oifname"),
+    ("iface_index", "meta", "iif oif"),
+    ("ifname", "iifname oifname", ""),
+    ("iface_index", "iif oif", ""),
+    ("ct_state", "ct", "state"),
+    ("ct_dir", "ct", "direction"),
+    ("ct_status", "ct", "status"),
 ];
 
 /// The words of which one stands behind the types of a set.
-static ENDS: [&str; 7] = [
-    ";",
-    "}",
-    "flags",
-    "elements",
-    "size",
-    "auto-merge",
-    "comment",
-];
+const ENDS: &str = "; } flags elements size auto-merge comment";
+
+/// What the values of a type are, and with what they are compared.
+const VALUES: &str = "\
+ipv4_addr|an address, as `192.0.2.1`|`ip saddr` or `ip daddr`
+inet_service|a port from 0 to 65535|`tcp dport` or `udp dport`
+inet_proto|a protocol, as `tcp`|`meta l4proto`
+ifname|an interface's name|`iifname` or `oifname`
+iface_index|an interface of the box|`iif` or `oif`
+tcp_flag|a flag, as `syn`|`tcp flags`
+icmp_type|a type of ICMP, as `echo-request`|`icmp type`
+nf_proto|`ipv4` or `ipv6`|`meta nfproto`
+ct_state|a state, as `new`|`ct state`
+ct_dir|`original` or `reply`|`ct direction`
+ct_status|a status, as `dnat`|`ct status`";
+
+/// What the values of a type are, and with what they are compared.
+pub fn values_of(of: Type) -> (&'static str, &'static str) {
+    for row in VALUES.split('\n') {
+        let mut cells = row.split('|');
+        if cells.next().unwrap_or("") == of {
+            return (cells.next().unwrap_or(""), cells.next().unwrap_or(""));
+        }
+    }
+    ("a number", "`meta mark` or `ct mark`")
+}
 
 /// The greatest numbers of the types whose values are numbers.
 static GREATEST: [(Type, u64); 11] = [
@@ -86,13 +93,13 @@ pub fn greatest(of: Type) -> Option<u64> {
 fn type_at(words: &Words<'_>, number: usize) -> Option<Type> {
     let (word, next) = (words.get(number), words.get(number.saturating_add(1)));
     let is_behind_meta = words.before(number, 1) == "meta";
-    for (first, second, of) in &SELECTORS {
-        let is_second = if second.is_empty() {
+    for (of, first, second) in &SELECTORS {
+        let is_whole = if second.is_empty() {
             !is_behind_meta
         } else {
-            *second == next
+            lists(second, next)
         };
-        if *first == word && is_second {
+        if is_whole && lists(first, word) {
             return Some(*of);
         }
     }
@@ -137,7 +144,7 @@ impl Types {
                     break;
                 }
                 Some(key) => self.keys.push(key)?,
-                None if ENDS.contains(&word) => break,
+                None if lists(ENDS, word) => break,
                 None => {}
             }
         }
@@ -182,9 +189,9 @@ fn first_of_types(words: &Words<'_>) -> (usize, bool) {
 
 /// The type of a name.
 fn named(name: &str) -> Option<Type> {
-    for known in words_of("type") {
-        if *known == name {
-            return Some(*known);
+    for known in words_of("type").split(' ') {
+        if known == name {
+            return Some(known);
         }
     }
     None

@@ -1,10 +1,10 @@
 //! What to do about a value that isn't of its type.
 use crate::around::Around;
 use crate::name_advice::unquoted;
-use crate::types::{Type, Types, greatest};
+use crate::types::{Type, Types, greatest, values_of};
 use advice::{
-    Advice, DID_YOU_MEAN_ONE_OF, fixed, greatest_is, no_value, one_of, otherwise, with_texts,
-    words_of, write_this,
+    Advice, Gap, NO_GAP, filled, fixed, greatest_is, lists, no_value, one_of, otherwise,
+    with_texts, words_of, write_this,
 };
 use fault_places::Words;
 
@@ -145,32 +145,38 @@ fn word_advice<'a>(of: Type, word: &'a str) -> Option<Advice<'a>> {
         return number_advice(of, number);
     }
     match word.as_bytes() {
-        [b'0'..=b'9', ..] => digits_advice(of),
+        [b'0'..=b'9', ..] if of != "ipv4_addr" => Some(compared_elsewhere(of, "ipv4_addr")),
         [b'"', ..] => Some(string_advice(of)),
         [b'-' | b'/' | b'.', ..] => None,
         _ => named_advice(of, word),
     }
 }
 
-/// What to do about a word that begins with a digit and is no number.
-fn digits_advice<'a>(of: Type) -> Option<Advice<'a>> {
-    if of == "ipv4_addr" {
-        return None;
-    }
-    Some(no_value(of, "a number"))
+/// What to do about a value of another type than the one that is compared.
+fn compared_elsewhere<'a>(of: Type, other: Type) -> Advice<'a> {
+    let (wanted, elsewhere) = (values_of(of).0, values_of(other).1);
+    filled(
+        "This is no {}: write {}, or compare {}.",
+        [
+            Gap::Text(of),
+            Gap::Text(wanted),
+            Gap::Text(elsewhere),
+            NO_GAP,
+        ],
+    )
 }
 
 fn number_advice<'a>(of: Type, number: u64) -> Option<Advice<'a>> {
     match greatest(of) {
         Some(most) if number > most => Some(greatest_is(of, most)),
         Some(_) => None,
-        None if of == "ipv4_addr" => Some(no_value(of, "four numbers, as `192.0.2.1`")),
-        None => Some(no_value(of, "a name")),
+        None if of == "ipv4_addr" => Some(compared_elsewhere(of, "inet_service")),
+        None => Some(no_value(of, values_of(of).0)),
     }
 }
 
 fn string_advice<'a>(of: Type) -> Advice<'a> {
-    if ["ifname", "iface_index"].contains(&of) {
+    if lists("ifname iface_index", of) {
         fixed("An interface's name has 1 to 15 bytes and no backslash.")
     } else {
         fixed("Write it without quotes.")
@@ -180,39 +186,36 @@ fn string_advice<'a>(of: Type) -> Advice<'a> {
 /// What to do about a word, where it isn't one that its type lists.
 fn named_advice<'a>(of: Type, word: &'a str) -> Option<Advice<'a>> {
     let known = words_of(of);
-    if known.contains(&word) {
+    if lists(known, word) {
         return None;
     }
-    Some(match instead_of(of, word, known) {
+    Some(match instead_of(of, word) {
         Some(other) => write_this(other),
-        None => {
-            unknown_advice(of, known).unless_near(unquoted(word), known, DID_YOU_MEAN_ONE_OF)
-        }
+        None => unknown_advice(of, known).unless_one_of(unquoted(word), known),
     })
 }
 
 /// What to do about a word that is like none of those that its type lists.
-fn unknown_advice<'a>(of: Type, known: &'a [&'a str]) -> Advice<'a> {
+fn unknown_advice<'a>(of: Type, known: &'static str) -> Advice<'a> {
     match of {
         "ifname" | "iface_index" => string_advice(of),
-        "ipv4_addr" => no_value(of, "four numbers, as `192.0.2.1`"),
         "inet_service" => no_value(of, "the port's number"),
-        _ if known.is_empty() => no_value(of, "a number"),
-        _ => one_of(known),
+        _ if known.is_empty() => no_value(of, values_of(of).0),
+        _ => one_of(Gap::Listed(known)),
     }
 }
 
 /// What stands here for a word that others write: a word of the type, or a port's number.
-fn instead_of(of: Type, word: &str, known: &[&str]) -> Option<&'static str> {
-    for (written, instead) in otherwise() {
-        if *written == word && is_known(of, instead, known) {
-            return Some(*instead);
+pub fn instead_of(of: Type, word: &str) -> Option<&'static str> {
+    for (instead, written) in otherwise() {
+        if lists(written, word) && is_known(of, instead) {
+            return Some(instead);
         }
     }
     None
 }
 
 /// Whether a word is one of those of its type, or a port's number.
-fn is_known(of: Type, word: &str, known: &[&str]) -> bool {
-    known.contains(&word) || (of == "inet_service" && word.parse::<u16>().is_ok())
+fn is_known(of: Type, word: &str) -> bool {
+    lists(words_of(of), word) || (of == "inet_service" && word.parse::<u16>().is_ok())
 }
