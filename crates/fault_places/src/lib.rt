@@ -26,4 +26,4 @@ pub use position::{Position, line_at, position_at};
 pub use set_elements::{Depth, elements};
 pub use showing::{enclosing_description, show};
 pub use stripping::{RemovedPart, Stripped, last_part, strip, with_parts};
-pub use tokens::words;
+pub use tokens::{Token, TokenKind, byte_at, continues_word, token_at, words};

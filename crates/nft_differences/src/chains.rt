@@ -2,7 +2,7 @@
 use crate::findings::Findings;
 use crate::outline::{Outline, PartKind, Range};
 use crate::tokens::Tokens;
-use crate::warning::Warning;
+use crate::warning;
 use nft_tree::{Chain, ChainKind, Head, Hook, Policy, Priority, PriorityName, Ruleset, Table};
 use std::alloc::{AllocError, Global};
 
@@ -151,14 +151,14 @@ fn judge_head(
     let place = part.place_of(tokens, part.start, b"priority");
     let base = BaseChain::of(head, place);
     if is_misplaced_name(head) {
-        findings.add(tokens, place, Warning::PriorityName);
+        findings.add(tokens, place, warning::PRIORITY_NAME);
     }
     if is_early(head) && base.priority == LOOKUP {
-        findings.add(tokens, place, Warning::EarlyPriority);
+        findings.add(tokens, place, warning::EARLY_PRIORITY);
     }
     let does_something = !chain.rules.is_empty() || matches!(head.policy, Some(Policy::Drop));
     if base.is_on_output() && does_something {
-        findings.add(tokens, part.start, Warning::OutputChain);
+        findings.add(tokens, part.start, warning::OUTPUT_CHAIN);
     }
     base
 }
@@ -180,10 +180,10 @@ fn is_misplaced_name(head: &Head) -> bool {
 fn judge_order(chains: &[BaseChain], tokens: &Tokens<'_>, findings: &mut Findings<'_>) {
     for (number, chain) in chains.iter().enumerate() {
         if chain.shares_place_with(chains.get(..number).unwrap_or(&[])) {
-            findings.add(tokens, chain.place, Warning::SamePriority);
+            findings.add(tokens, chain.place, warning::SAME_PRIORITY);
         }
         if chain.is_filter() && chain.is_at_step() && chain.shares_hook_with_nat(chains) {
-            findings.add(tokens, chain.place, Warning::NatPriority);
+            findings.add(tokens, chain.place, warning::NAT_PRIORITY);
         }
     }
 }

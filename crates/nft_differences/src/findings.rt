@@ -5,7 +5,7 @@ use crate::layout::judge_layout;
 use crate::rules::judge_rules;
 use crate::sets::judge_sets;
 use crate::tokens::Tokens;
-use crate::warning::Warning;
+use crate::warning::{self, Warning};
 use fault_places::{Position, position_at};
 use nft_parser::parse;
 use nft_tree::Ruleset;
@@ -117,7 +117,7 @@ fn put_line(
     warning: Warning,
 ) -> Result<(), AllocError> {
     write!(lines, "{path}:{}:{}: warning: ", place.line, place.column)?;
-    lines.push_str(warning.sentence())?;
+    lines.push_str(warning)?;
     lines.push('\n')
 }
 

@@ -2,8 +2,9 @@
 use crate::findings::Findings;
 use crate::names::is_reserved;
 use crate::outline::{Declaration, Nesting, Outline, PartKind};
-use crate::tokens::{TokenKind, Tokens, byte_at, continues_word};
-use crate::warning::Warning;
+use crate::tokens::Tokens;
+use crate::warning::{self, Warning};
+use fault_places::{TokenKind, byte_at, continues_word};
 
 /// The most bytes of a comment, and of a name.
 const MOST_OF_COMMENT: usize = 128;
@@ -27,7 +28,7 @@ static BEHIND_NEWLINE: [&[u8]; 2] = [b"}", b","];
 /// Adds the warnings about the layout.
 pub(crate) fn judge_layout(tokens: &Tokens<'_>, findings: &mut Findings<'_>) {
     if let Some(offset) = carriage_return(tokens.text) {
-        findings.add_at(offset, Warning::CarriageReturn);
+        findings.add_at(offset, warning::CARRIAGE_RETURN);
     }
     judge_second_comments(tokens, findings);
     judge_names(tokens, findings);
@@ -41,7 +42,7 @@ fn judge_second_comments(tokens: &Tokens<'_>, findings: &mut Findings<'_>) {
         let Some(comment) = outline.next(tokens, PartKind::SecondComment) else {
             break;
         };
-        findings.add(tokens, comment.start, Warning::SecondComment);
+        findings.add(tokens, comment.start, warning::SECOND_COMMENT);
     }
 }
 
@@ -121,10 +122,10 @@ fn carriage_return(text: &[u8]) -> Option<usize> {
 fn judge_name(tokens: &Tokens<'_>, index: usize, findings: &mut Findings<'_>) {
     let name = tokens.bytes(index);
     if is_reserved(name) {
-        findings.add(tokens, index, Warning::ReservedName);
+        findings.add(tokens, index, warning::RESERVED_NAME);
     }
     if name.len() > MOST_OF_NAME {
-        findings.add(tokens, index, Warning::LongName);
+        findings.add(tokens, index, warning::LONG_NAME);
     }
 }
 
@@ -134,11 +135,11 @@ fn judge_closing(tokens: &Tokens<'_>, index: usize, nesting: Nesting, findings: 
         return;
     }
     if !is_ended(tokens, index.saturating_sub(1), nesting) {
-        findings.add(tokens, index, Warning::MissingEnd);
+        findings.add(tokens, index, warning::MISSING_END);
     }
     let next = index.saturating_add(1);
     if !tokens.is_newline(next) && !tokens.is(next, b";") {
-        findings.add(tokens, next, Warning::MissingEnd);
+        findings.add(tokens, next, warning::MISSING_END);
     }
 }
 
@@ -161,7 +162,7 @@ fn judge_newline(tokens: &Tokens<'_>, index: usize, nesting: Nesting, findings: 
         return;
     }
     if !is_allowed_between(tokens, before, index.saturating_add(1)) {
-        findings.add(tokens, index, Warning::NewlineInList);
+        findings.add(tokens, index, warning::NEWLINE_IN_LIST);
     }
 }
 
@@ -190,14 +191,14 @@ fn tightness(tokens: &Tokens<'_>, index: usize, next: usize) -> Option<Warning> 
     }
     let first = byte_at(tokens.text, tokens.offset(next));
     if tokens.is(index, b".") && continues_word(first) {
-        return Some(Warning::TightDot);
+        return Some(warning::TIGHT_DOT);
     }
     match tokens.kind(next) {
         TokenKind::Number if tokens.is(index, b":") && is_class(tokens, index) => {
-            Some(Warning::TightColon)
+            Some(warning::TIGHT_COLON)
         }
         TokenKind::Word if is_unit(first) && is_decimal(tokens.bytes(index)) => {
-            Some(Warning::TightUnit)
+            Some(warning::TIGHT_UNIT)
         }
         _ => None,
     }
@@ -210,10 +211,10 @@ fn string_behind(tokens: &Tokens<'_>, index: usize, next: usize) -> Option<Warni
     }
     let string = tokens.bytes(next);
     if tokens.is(index, b"comment") && is_long(string) {
-        return Some(Warning::LongComment);
+        return Some(warning::LONG_COMMENT);
     }
     if tokens.is(index, b"prefix") && string.contains(&b'$') {
-        return Some(Warning::PrefixVariable);
+        return Some(warning::PREFIX_VARIABLE);
     }
     None
 }

@@ -15,41 +15,30 @@ typeof undefine update vmap xor xt
 ";
 
 /// Words that can be the name of an interface in a list alone.
-static PROTOCOL_WORDS: [&[u8]; 14] = [
-    b"ah",
-    b"comp",
-    b"dccp",
-    b"esp",
-    b"exists",
-    b"icmp",
-    b"icmpv6",
-    b"igmp",
-    b"missing",
-    b"redirect",
-    b"sctp",
-    b"tcp",
-    b"udp",
-    b"udplite",
-];
+const PROTOCOL_WORDS: &str =
+    "ah comp dccp esp exists icmp icmpv6 igmp missing redirect sctp tcp udp udplite";
 
 /// Words that can be the name of an interface alone.
-static FAMILY_WORDS: [&[u8]; 9] = [
-    b"arp", b"dnat", b"ecn", b"ether", b"ip", b"ip6", b"reset", b"snat", b"vlan",
-];
+const FAMILY_WORDS: &str = "arp dnat ecn ether ip ip6 reset snat vlan";
 
 /// Whether a table, a chain, a set or a map can't have this name.
 pub(crate) fn is_reserved(name: &[u8]) -> bool {
-    is_reserved_interface(name) || FAMILY_WORDS.contains(&name)
+    is_reserved_interface(name) || has_word(FAMILY_WORDS, name)
 }
 
 /// Whether an interface can't be named by this word without quotes in a match.
 pub(crate) fn is_reserved_interface(name: &[u8]) -> bool {
-    is_reserved_element(name) || PROTOCOL_WORDS.contains(&name)
+    is_reserved_element(name) || has_word(PROTOCOL_WORDS, name)
 }
 
 /// Whether an interface can't be named by this word without quotes in a list.
 pub(crate) fn is_reserved_element(name: &[u8]) -> bool {
-    for word in WORDS.split_whitespace() {
+    has_word(WORDS, name)
+}
+
+/// Whether a name is one of some words.
+fn has_word(words: &str, name: &[u8]) -> bool {
+    for word in words.split_whitespace() {
         if word.as_bytes() == name {
             return true;
         }

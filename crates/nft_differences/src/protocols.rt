@@ -1,5 +1,5 @@
 //! What nft(8) knows of a rule's packets from left to right: their family and transport protocol.
-use crate::warning::Warning;
+use crate::warning::{self, Warning};
 use nft_tree::{Family, Selector, Value};
 
 const ICMP: u32 = 1;
@@ -71,7 +71,7 @@ impl Protocols {
                 }
                 self.read_transport(ICMP)
             }
-            Selector::MetaFamily if !self.is_inet => Some(Warning::FamilyInIpTable),
+            Selector::MetaFamily if !self.is_inet => Some(warning::FAMILY_IN_IP_TABLE),
             _ => None,
         }
     }
@@ -82,7 +82,7 @@ impl Protocols {
                 self.network = Network::Ipv4;
                 None
             }
-            Network::Ipv6 | Network::Other => Some(Warning::FamilyConflict),
+            Network::Ipv6 | Network::Other => Some(warning::FAMILY_CONFLICT),
         }
     }
 
@@ -93,7 +93,7 @@ impl Protocols {
             || self.other;
         self.add_transport(protocol);
         if conflicts {
-            Some(Warning::ProtocolConflict)
+            Some(warning::PROTOCOL_CONFLICT)
         } else {
             None
         }
@@ -136,12 +136,12 @@ impl Protocols {
     pub(crate) fn judge_nat(self, named: bool) -> Option<Warning> {
         match self.network {
             Network::Ipv4 => None,
-            Network::Ipv6 => Some(Warning::NatOfIpv6),
+            Network::Ipv6 => Some(warning::NAT_OF_IPV6),
             Network::Any | Network::Other => {
                 if named {
                     None
                 } else {
-                    Some(Warning::NatWithoutFamily)
+                    Some(warning::NAT_WITHOUT_FAMILY)
                 }
             }
         }

@@ -8,7 +8,7 @@ use crate::ports::{is_of_ports, leave_ports, reads_any_port};
 use crate::protocols::Protocols;
 use crate::sets::{List, is_interface, is_long_wildcard};
 use crate::tokens::Tokens;
-use crate::warning::Warning;
+use crate::warning;
 use nft_tree::{
     BitField, BitTest, Chain, DestinationTarget, Element, Key, MapLookup, MapRef, Match, Nat,
     Operand, Operator, Rule, Ruleset, Selector, SetRef, SourceTarget, Stmt, Table, Value,
@@ -119,11 +119,11 @@ impl Walk<'_, '_> {
             findings.add(self.tokens, place, warning);
         }
         if reads_any_port(selector) && !self.is_ported {
-            findings.add(self.tokens, place, Warning::PortsOfAny);
+            findings.add(self.tokens, place, warning::PORTS_OF_ANY);
         }
         self.is_ported = self.is_ported || is_of_ports(selector);
         if self.is_early && reads_connection(selector) {
-            findings.add(self.tokens, place, Warning::StateInEarlyChain);
+            findings.add(self.tokens, place, warning::STATE_IN_EARLY_CHAIN);
         }
         place
     }
@@ -136,7 +136,7 @@ impl Walk<'_, '_> {
     /// Judges the map of a selector that was read.
     fn judge_map(&self, selector: Selector, map: &MapRef, findings: &mut Findings<'_>) {
         if matches!(selector, Selector::CtStatus) {
-            findings.add(self.tokens, self.at, Warning::WholeStatus);
+            findings.add(self.tokens, self.at, warning::WHOLE_STATUS);
         }
         if let MapRef::Anonymous(pairs) = map {
             let list = List::new(self.tokens, self.part, self.at);
@@ -146,7 +146,7 @@ impl Walk<'_, '_> {
 
     fn judge_match(&mut self, test: &Match, findings: &mut Findings<'_>) {
         if !self.has_exit && excludes_exits(test) {
-            findings.add(self.tokens, self.place_of_exit(), Warning::NoExit);
+            findings.add(self.tokens, self.place_of_exit(), warning::NO_EXIT);
         }
         match test {
             Match::Compare(selector, operator, range) => {
@@ -198,12 +198,12 @@ impl Walk<'_, '_> {
         if is_long_wildcard(value) {
             let end = self.part.end.saturating_sub(1);
             let found = self.tokens.find_string(self.at, end);
-            findings.add(self.tokens, found, Warning::LongWildcard);
+            findings.add(self.tokens, found, warning::LONG_WILDCARD);
         }
         if let Value::Word(word) = value {
             if is_interface(selector.kind()) && is_reserved_interface(word) {
                 let found = self.part.place_of(self.tokens, self.at, word);
-                findings.add(self.tokens, found, Warning::ReservedName);
+                findings.add(self.tokens, found, warning::RESERVED_NAME);
             }
         }
     }
@@ -244,10 +244,10 @@ impl Walk<'_, '_> {
         let is_single = elements.len() == 1 && !has_operator;
         match selector {
             Selector::CtStatus if !is_single => {
-                findings.add(self.tokens, place, Warning::WholeStatus);
+                findings.add(self.tokens, place, warning::WHOLE_STATUS);
             }
             Selector::CtStatus | Selector::TcpFlags if is_single => {
-                findings.add(self.tokens, place, Warning::SingleBit);
+                findings.add(self.tokens, place, warning::SINGLE_BIT);
             }
             _ => {}
         }
@@ -277,10 +277,10 @@ impl Walk<'_, '_> {
         let place = self.read(selector, findings);
         match (field, test) {
             (BitField::State, BitTest::None) if words > 1 => {
-                findings.add(self.tokens, place, Warning::StateNotSeveral);
+                findings.add(self.tokens, place, warning::STATE_NOT_SEVERAL);
             }
             (BitField::Status, BitTest::None | BitTest::Exactly) => {
-                findings.add(self.tokens, place, Warning::WholeStatus);
+                findings.add(self.tokens, place, warning::WHOLE_STATUS);
             }
             _ => {}
         }
@@ -302,9 +302,9 @@ impl Walk<'_, '_> {
         }
         let is_alone = !self.tokens.is(mask.saturating_add(1), b"|");
         let warning = if is_alone && is_prefix_length(self.tokens.bytes(mask)) {
-            Warning::MaskAsPrefix
+            warning::MASK_AS_PREFIX
         } else {
-            Warning::MaskOfOne
+            warning::MASK_OF_ONE
         };
         findings.add(self.tokens, slash, warning);
     }
@@ -319,11 +319,11 @@ impl Walk<'_, '_> {
                 b")" => is_open = false,
                 b"=" | b"!" => is_mask = false,
                 b"," if is_open || is_mask => {
-                    findings.add(self.tokens, index, Warning::CommaInMask);
+                    findings.add(self.tokens, index, warning::COMMA_IN_MASK);
                     break;
                 }
                 b"|" if is_mask && !is_open => {
-                    findings.add(self.tokens, self.at, Warning::OpenMask);
+                    findings.add(self.tokens, self.at, warning::OPEN_MASK);
                     break;
                 }
                 b"{" => break,
@@ -363,7 +363,7 @@ impl Walk<'_, '_> {
             }
         }
         if has_ports(nat) && !self.protocols.has_transport() {
-            findings.add(self.tokens, place, Warning::PortsWithoutProtocol);
+            findings.add(self.tokens, place, warning::PORTS_WITHOUT_PROTOCOL);
         }
         match nat {
             Nat::Source(SourceTarget::MapLookup(lookup))
@@ -410,49 +410,31 @@ fn reads_connection(selector: Selector) -> bool {
 
 /// The words that a selector is written with; the second is empty where there is one word.
 fn words_of(selector: Selector) -> (&'static [u8], &'static [u8]) {
-    (first_word_of(selector), second_word_of(selector))
-}
-
-fn first_word_of(selector: Selector) -> &'static [u8] {
     match selector {
-        Selector::IpSource
-        | Selector::IpDestination
-        | Selector::IpProtocol
-        | Selector::IpTtl
-        | Selector::IpLength => b"ip",
-        Selector::MetaProtocol | Selector::MetaLength | Selector::MetaMark | Selector::MetaFamily =>
-            b"meta",
-        Selector::TcpSource | Selector::TcpDestination | Selector::TcpFlags => b"tcp",
-        Selector::UdpSource | Selector::UdpDestination => b"udp",
-        Selector::TransportSource | Selector::TransportDestination => b"th",
-        Selector::IcmpType => b"icmp",
-        Selector::InputName => b"iifname",
-        Selector::OutputName => b"oifname",
-        Selector::InputIndex => b"iif",
-        Selector::OutputIndex => b"oif",
-        Selector::CtMark | Selector::CtState | Selector::CtDirection | Selector::CtStatus => b"ct",
-    }
-}
-
-fn second_word_of(selector: Selector) -> &'static [u8] {
-    match selector {
-        Selector::IpSource => b"saddr",
-        Selector::IpDestination => b"daddr",
-        Selector::IpProtocol => b"protocol",
-        Selector::MetaProtocol => b"l4proto",
-        Selector::IpTtl => b"ttl",
-        Selector::IpLength | Selector::MetaLength => b"length",
-        Selector::TcpSource | Selector::UdpSource | Selector::TransportSource => b"sport",
-        Selector::TcpDestination | Selector::UdpDestination | Selector::TransportDestination =>
-            b"dport",
-        Selector::TcpFlags => b"flags",
-        Selector::IcmpType => b"type",
-        Selector::MetaMark | Selector::CtMark => b"mark",
-        Selector::MetaFamily => b"nfproto",
-        Selector::CtState => b"state",
-        Selector::CtDirection => b"direction",
-        Selector::CtStatus => b"status",
-        Selector::InputName | Selector::OutputName | Selector::InputIndex | Selector::OutputIndex =>
-            b"",
+        Selector::IpSource => (b"ip", b"saddr"),
+        Selector::IpDestination => (b"ip", b"daddr"),
+        Selector::IpProtocol => (b"ip", b"protocol"),
+        Selector::IpTtl => (b"ip", b"ttl"),
+        Selector::IpLength => (b"ip", b"length"),
+        Selector::MetaProtocol => (b"meta", b"l4proto"),
+        Selector::MetaLength => (b"meta", b"length"),
+        Selector::MetaMark => (b"meta", b"mark"),
+        Selector::MetaFamily => (b"meta", b"nfproto"),
+        Selector::TcpSource => (b"tcp", b"sport"),
+        Selector::TcpDestination => (b"tcp", b"dport"),
+        Selector::TcpFlags => (b"tcp", b"flags"),
+        Selector::UdpSource => (b"udp", b"sport"),
+        Selector::UdpDestination => (b"udp", b"dport"),
+        Selector::TransportSource => (b"th", b"sport"),
+        Selector::TransportDestination => (b"th", b"dport"),
+        Selector::IcmpType => (b"icmp", b"type"),
+        Selector::InputName => (b"iifname", b""),
+        Selector::OutputName => (b"oifname", b""),
+        Selector::InputIndex => (b"iif", b""),
+        Selector::OutputIndex => (b"oif", b""),
+        Selector::CtMark => (b"ct", b"mark"),
+        Selector::CtState => (b"ct", b"state"),
+        Selector::CtDirection => (b"ct", b"direction"),
+        Selector::CtStatus => (b"ct", b"status"),
     }
 }

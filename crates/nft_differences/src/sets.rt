@@ -4,7 +4,7 @@ use crate::intervals::{Coverage, interval_of, is_interval, is_interval_key, wild
 use crate::names::is_reserved_element;
 use crate::outline::{Outline, PartKind, Range};
 use crate::tokens::Tokens;
-use crate::warning::Warning;
+use crate::warning;
 use nft_tree::{
     ComparedType, Element, Item, Key, MapDecl, Pair, Ruleset, SetDecl, SetFlag, Table, Value,
     ValueRange, ValueType,
@@ -61,12 +61,12 @@ impl<'a, 't> List<'a, 't> {
     /// Adds what nft refuses of a literal of an element, which begins at a token.
     fn judge_value(self, value: &Value, start: usize, findings: &mut Findings<'_>) {
         if is_long_wildcard(value) {
-            findings.add(self.tokens, start, Warning::LongWildcard);
+            findings.add(self.tokens, start, warning::LONG_WILDCARD);
         }
         if let Value::Word(word) = value {
             if is_reserved_element(word) {
                 let place = self.part.place_of(self.tokens, start, word);
-                findings.add(self.tokens, place, Warning::ReservedName);
+                findings.add(self.tokens, place, warning::RESERVED_NAME);
             }
         }
     }
@@ -177,7 +177,7 @@ fn judge_set(set: &SetDecl, tokens: &Tokens<'_>, part: Range, findings: &mut Fin
     let is_interval = has_flag(&set.flags, SetFlag::Interval);
     if set.auto_merge && !is_interval {
         let place = part.place_of(tokens, part.start, b"auto-merge");
-        findings.add(tokens, place, Warning::AutoMergeWithoutInterval);
+        findings.add(tokens, place, warning::AUTO_MERGE_WITHOUT_INTERVAL);
     }
     let declared = Declared {
         key: set.key.kind(0).unwrap_or(ComparedType::Unnamed(0)),
@@ -194,7 +194,7 @@ fn judge_set(set: &SetDecl, tokens: &Tokens<'_>, part: Range, findings: &mut Fin
 fn judge_map(map: &MapDecl, tokens: &Tokens<'_>, part: Range, findings: &mut Findings<'_>) {
     if map.auto_merge {
         let place = part.place_of(tokens, part.start, b"auto-merge");
-        findings.add(tokens, place, Warning::AutoMergeOfMap);
+        findings.add(tokens, place, warning::AUTO_MERGE_OF_MAP);
     }
     let declared = Declared {
         key: map.types.key(),
@@ -276,20 +276,20 @@ impl List<'_, '_> {
         if let Some(size) = size {
             if size != 0 && size < count as u64 {
                 let place = self.part.place_of(self.tokens, self.part.start, b"size");
-                findings.add(self.tokens, place, Warning::TooManyElements);
+                findings.add(self.tokens, place, warning::TOO_MANY_ELEMENTS);
             }
         }
     }
 
     fn judge_without_interval(self, element: Option<usize>, findings: &mut Findings<'_>) {
         if let Some(element) = element {
-            findings.add(self.tokens, self.start(element), Warning::NoInterval);
+            findings.add(self.tokens, self.start(element), warning::NO_INTERVAL);
         }
     }
 
     fn judge_overlap(self, covered: Coverage, findings: &mut Findings<'_>) {
         if let Some(element) = covered.overlapping {
-            findings.add(self.tokens, self.start(element), Warning::Overlap);
+            findings.add(self.tokens, self.start(element), warning::OVERLAP);
         }
     }
 

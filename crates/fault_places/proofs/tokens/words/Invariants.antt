@@ -2,5 +2,5 @@ use Rattle.std.proofs.Common.{length}
 use Rattle.fault_places.specs.Within.{AllWithin}
 use Rattle.fault_places.proofs.tokens.words.Given as goal
 
-abbrev pub invariant-loop-offset : goal.invariant-loop-offset
-invariant-loop-offset l = AllWithin (length l.text) l.found.items
+abbrev pub invariant-loop : goal.invariant-loop
+invariant-loop l = AllWithin (length l.text) l.found.items
