@@ -1,5 +1,5 @@
 -- The facts of a box, and that bits write each of them. (own)
-use Rattle.std.specs.Prelude.{◌≡◌, ℕ, ◌^◌, ◌<◌, Bool, true, false, List, IfSome}
+use Rattle.std.specs.Prelude.{◌≡◌, ℕ, ◌^◌, ◌<◌, Bool, false, List, IfSome}
 use Rattle.ip_headers.specs.declared.transport.Transport.{Transport}
 use Rattle.ip_headers.specs.declared.transport.Transport.TheVariants.{Tcp, Udp, Icmp, Other}
 use Rattle.rule_meaning.specs.declared.facts.Facts.{Facts}
