@@ -6,7 +6,7 @@ use Rattle.list_laws.specs.Lists.{Contains-head}
 use Rattle.nft_tree.specs.declared.statement.MarkField.{MarkField}
 use Rattle.nft_tree.specs.declared.statement.MarkField.TheVariants as marks
 use Rattle.nft_tree.specs.Tree as tree
-use Rattle.nft_tree.specs.Tree.{Statement, VerdictTree, TableTree}
+use Rattle.nft_tree.specs.Tree.{Statement, TableTree}
 use Rattle.box_file.specs.Box.{PlantTree}
 use Rattle.rule_check.specs.Chains.{is_terminal, has_statement_after_terminal}
 use Rattle.rule_meaning.specs.declared.facts.Facts.{Facts}

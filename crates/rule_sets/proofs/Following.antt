@@ -9,7 +9,7 @@ use Rattle.rule_meaning.specs.Statements.{StatementEffect, pass, fail, note, giv
 use Rattle.rule_meaning.specs.Runs as runs
 use Rattle.rule_meaning.specs.Runs.{Program, Remainder, RunResult, Runs, at_end, at_rule, in_rule, over, statement_position, with_verdict}
 use Rattle.rule_sets.specs.Ends as ends
-use Rattle.rule_sets.specs.Ends.{Follows, Jumps, RuleEnd, RunsToItsEnd, end_behind, events_behind, rule_end, rule_events}
+use Rattle.rule_sets.specs.Ends.{Follows, Jumps, RunsToItsEnd, end_behind, events_behind, rule_end, rule_events}
 
 module _ {S : Type 0} (p : Program S) where
   -- after a statement with this effect
