@@ -27,15 +27,69 @@ static TYPES: [&str; 3] = ["", "\ntype mark", "\ntype mark : mark"];
 /// A prefix of another part lacks nothing.
 static NOTHING: [&str; 1] = [""];
 
-/// Endings, one of which completes most prefixes that the grammar allows, with `|` between two.
-const ENDINGS: &str =
-    "| 1| 1.2.3.4| syn| new| snat| x| \"a\"| accept| 1 }| x }| : 1| : accept| : accept }\
-    | 1 : accept }| \"a\" : accept }| : 1 }| 1 : 1 }| accept }| @s| @m| vmap @m| saddr 1.2.3.4| dport 1\
-    | type 1| mark 1| mark| saddr| dport| type| interval| map @m| saddr map @m| dport map @m| mark map @m\
-    | saddr @s| dport @s| mark @s| set 1| to 1.2.3.4| to : 1| packets 1 bytes 1| bytes 1| 1 bytes 1\
-    | syn == syn| == syn| ) == syn| syn ) == syn| syn )| )| filter hook input priority 0\
-    | hook input priority 0| input priority 0| priority 0| = { 1 }| mark : mark| {\n}| x {\n}\
-    | {\ntype mark\n}| {\ntype mark : mark\n}";
+/// Endings, one of which completes most prefixes that the grammar allows.
+static ENDINGS: [&str; 60] = [
+    "",
+    " 1",
+    " 1.2.3.4",
+    " syn",
+    " new",
+    " snat",
+    " x",
+    " \"a\"",
+    " accept",
+    " 1 }",
+    " x }",
+    " : 1",
+    " : accept",
+    " : accept }",
+    " 1 : accept }",
+    " \"a\" : accept }",
+    " : 1 }",
+    " 1 : 1 }",
+    " accept }",
+    " @s",
+    " @m",
+    " vmap @m",
+    " saddr 1.2.3.4",
+    " dport 1",
+    " type 1",
+    " mark 1",
+    " mark",
+    " saddr",
+    " dport",
+    " type",
+    " interval",
+    " map @m",
+    " saddr map @m",
+    " dport map @m",
+    " mark map @m",
+    " saddr @s",
+    " dport @s",
+    " mark @s",
+    " set 1",
+    " to 1.2.3.4",
+    " to : 1",
+    " packets 1 bytes 1",
+    " bytes 1",
+    " 1 bytes 1",
+    " syn == syn",
+    " == syn",
+    " ) == syn",
+    " syn ) == syn",
+    " syn )",
+    " )",
+    " filter hook input priority 0",
+    " hook input priority 0",
+    " input priority 0",
+    " priority 0",
+    " = { 1 }",
+    " mark : mark",
+    " {\n}",
+    " x {\n}",
+    " {\ntype mark\n}",
+    " {\ntype mark : mark\n}",
+];
 
 /// The most words of a part whose prefixes are tried one by one; with more they are bisected.
 const MAX_LINEAR_WORDS: usize = 256;
@@ -161,7 +215,7 @@ impl Wrapper {
 
     /// Whether one of the endings completes a prefix.
     fn ends(self, alloc: Global, prefix: &[u8], closing: &str) -> Result<bool, AllocError> {
-        for ending in ENDINGS.split('|') {
+        for ending in &ENDINGS {
             if self.reads_with(alloc, prefix, ending, closing)? {
                 return Ok(true);
             }
