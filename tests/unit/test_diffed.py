@@ -97,6 +97,7 @@ class Asked(FilesCase):
         self.assertEqual([large.is_rejected, rejected.is_rejected], [False, True])
         self.assertEqual(self.asked("echo nonsense", "exit 10"),
                          NoAnswer("nftrun diff: a line that can't be read: nonsense"))
+        self.assertEqual(self.asked("exit 0"), NoAnswer("nftrun diff: a line that can't be read: there is none"))
         self.assertEqual(self.asked("exec sleep 30", seconds=1), NoAnswer("nftrun diff took over 1 s"))
 
     def test_the_status_has_to_fit(self) -> None:

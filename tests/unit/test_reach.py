@@ -83,6 +83,10 @@ class Asked(FilesCase):
             told = self.asked('echo "rule ip f a 1 met"', f"exit {status}")
             self.assertEqual(told, Answers({("ip f a", 1): RuleAnswer(Meeting.MET, "")}, {}, are_all_met))
 
+    def test_neither_rules_nor_chains(self) -> None:
+        self.assertEqual(self.asked("exit 0"), Answers({}, {}, True))
+        self.assertEqual(self.asked("echo"), NoAnswer("nftrun reach: a line that can't be read: "))
+
     def test_what_it_is_asked(self) -> None:
         told = self.asked('echo "rule ip f a 1 never reached, $*"', "exit 8")
         assert isinstance(told, Answers)

@@ -57,7 +57,7 @@ def answer_to(program: str, words: Sequence[str], statuses: Collection[int],
     if status not in statuses:
         why = first.removeprefix(PREFIX) or f"status {status}"
         return NoAnswer(f"nftrun {question}: {why}", status=status)
-    return Answer(status, text.removesuffix("\n").split("\n"))
+    return Answer(status, text.removesuffix("\n").split("\n") if text else ())
 
 
 def unread(question: str, fault: ValueError) -> NoAnswer:

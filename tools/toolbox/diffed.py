@@ -93,6 +93,8 @@ def diff_of(lines: Sequence[str]) -> Diff:
     """Reads the lines of an answer; ValueError with the line that is none of one."""
     if list(lines) == [SAME]:
         return Diff()
+    if not lines:
+        raise ValueError("there is none")
     classes: list[PacketClass] = []
     more = 0
     for number, line in enumerate(lines, 1):
