@@ -1,10 +1,11 @@
 """A program that is called in folders, one for each thread."""
 from __future__ import annotations
 
+import re
 import subprocess
 import tempfile
 import threading
-from dataclasses import dataclass
+from dataclasses import dataclass, replace
 from typing import Mapping, Sequence
 
 from files import contents, store
@@ -49,3 +50,16 @@ class Program:
             [self.path, *words], cwd=self.folder, env=setting or {}, stdin=subprocess.DEVNULL, capture_output=True,
             close_fds=False, check=False)
         return Called(done.returncode, done.stdout.decode("utf-8", "replace"), done.stderr.decode("utf-8", "replace"))
+
+
+class ListRuns(Program):
+    """The tests of crates/crate_tests, by the one that runs what it is called with over the list tracker. A test that
+    ends with a status tells it in a line of its own, behind those of the run."""
+
+    TEST = "list_runs::runs_as_nftrun"
+    ENDED = re.compile(r"the test failed: its result gives status ([0-9]+)\n\Z")
+
+    def call(self, words: Sequence[str], setting: Mapping[str, str] | None = None) -> Called:
+        called = super().call([self.TEST, *words], setting)
+        ended = self.ENDED.search(called.errors)
+        return replace(called, status=int(ended[1]), errors=called.errors[:ended.start()]) if ended else called

@@ -58,13 +58,15 @@ class Test:
     options: tuple[Option, ...] = ()
 
 
+CRATE_TESTS = "crates/crate_tests/out/crate_tests_tests"  # the tests of that crate, built
+
 TESTS = (
     Test("rows", "rows/test-rows", Place.PROGRAMS, "whole runs; what is told of faults (--only TEXT: these)",
-         Wanted.EACH, options=(Option("--rows", "crates/list_run/out/list_run"),)),
+         Wanted.EACH, options=(Option("--lists", CRATE_TESTS),)),
     Test("calls", "calls/test-calls", Place.PROGRAMS, "what each task reads, creates and prints, in order",
          Wanted.EACH),
     Test("refuse", "refuse/test-refuse", Place.PROGRAMS, "memory, opens, reads and writes refused in turn", Wanted.EACH,
-         ("--few",), (Option("--tests", "crates/crate_tests/out/crate_tests_tests"),)),
+         ("--few",), (Option("--tests", CRATE_TESTS),)),
     Test("full-table", "limits/test-full-table", Place.PROGRAMS, "1,048,576 connections, all ports taken"),
     Test("limits", "limits/test-limits", Place.PROGRAMS, "each limit and one past; sizes that users have"),
     Test("random", "random/test-random", Place.PROGRAMS, "random rulesets beside a plain reading (--seeds N: one)"),

@@ -82,10 +82,10 @@ class Runs(FilesCase):
     def test_words(self) -> None:
         program = pathlib.Path(self.file("nftrun", ""))
         other = self.file("nftrun.by-rattle", "")
-        built, lost = Option("--rows", self.file("list_run", "")), Option("--tests", f"{self.folder}/nothing")
+        built, lost = Option("--lists", self.file("crate_tests", "")), Option("--tests", f"{self.folder}/nothing")
         test = self.one(0, built, lost, wanted=Wanted.EACH, words=["--few"])
         self.assertTrue(run(test, program, ["--only", "x"]))
-        self.assertEqual([str(program), other, "--few", "--rows", built.path, "--only", "x"], self.noted())
+        self.assertEqual([str(program), other, "--few", "--lists", built.path, "--only", "x"], self.noted())
         self.assertEqual([lost.path], not_built(test))
         self.assertEqual([str(program)], call_of(self.one(0), program)[1:])
         self.assertEqual([], call_of(self.one(0, wanted=Wanted.NONE), program)[1:])
@@ -100,7 +100,7 @@ class Runs(FilesCase):
     def test_all(self) -> None:
         """All run, also behind one that failed; without a program that is listed it fails."""
         program = pathlib.Path(self.file("nftrun", ""))
-        lacking = self.one(0, Option("--rows", f"{self.folder}/nothing"))
+        lacking = self.one(0, Option("--lists", f"{self.folder}/nothing"))
         by_hand = Test("by hand", self.script(3), Place.BY_HAND, "")
         for tests, passes, told in (
                 ((self.one(0), by_hand), True, ""), ((self.one(1), self.one(0)), False, "FAILED: ends-1, status 1"),

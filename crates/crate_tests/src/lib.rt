@@ -1,7 +1,8 @@
 //! Tests across crates. Of those below the engine, each alone: lexer and parser, box files, compiled
 //! rules, captures, checksums, interval and rule tables, ports, NAT mappings, and rewriting. Of whole
-//! runs: with calls that fail, with the connections that an engine lists, and of statuses that no run
-//! of the program shows; and of how many slots the calls of a tracker visit.
+//! runs: with calls that fail, with the connections that an engine lists, over the plain list
+//! tracker, and of statuses that no run of the program shows; and of how many slots the calls of a
+//! tracker visit.
 #![tactic(auto)]
 
 #[cfg(test)]
@@ -20,6 +21,10 @@ mod intervals;
 mod large_tables;
 #[cfg(test)]
 mod lexing;
+#[cfg(test)]
+mod list_replay;
+#[cfg(test)]
+mod list_runs;
 #[cfg(test)]
 mod mappings;
 #[cfg(test)]

@@ -12,8 +12,8 @@ use Rattle.program.specs.declared.diffing.DiffInputs.{DiffInputs}
 use Rattle.program.specs.declared.fault.DiffFault.{DiffFault}
 use Rattle.program.specs.declared.fault.ReachFault.{ReachFault}
 use Rattle.program.specs.declared.identity.FileIdentity.{FileIdentity}
-use Rattle.program.specs.declared.running.RunFiles.{RunFiles}
-use Rattle.program.specs.declared.running.RunInputs.{RunInputs}
+use Rattle.program.specs.declared.host.RunFiles.{RunFiles}
+use Rattle.progress.specs.declared.running.RunInputs.{RunInputs}
 use Rattle.program.specs.declared.status.Status.{Status}
 
 -- a path, or a file's text, as bytes

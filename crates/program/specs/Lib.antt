@@ -8,5 +8,4 @@ pub mod Examining
 pub mod Reaching
 pub mod Diffing
 pub mod Performing
-pub mod Outputs
 pub mod steps

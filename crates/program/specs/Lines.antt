@@ -1,5 +1,5 @@
--- What is printed (own): the line of each status, with the code of the fault, and the line of progress.
-use Rattle.std.specs.Prelude.{◌++◌, ◌/◌, ◌%◌, ℕ, List, Option, Some, None, codes, decimal}
+-- The lines of statuses, with the codes of faults (own).
+use Rattle.std.specs.Prelude.{◌++◌, ℕ, List, codes}
 use Rattle.box_file.specs.Codes as boxes
 use Rattle.pcap_io.specs.Codes as captures
 use Rattle.engine.specs.Words.{rules_code}
@@ -33,13 +33,3 @@ line_of Torn = codes "nftrun: capture torn"
 line_of Unmet = codes "nftrun: a rule can't be met"
 line_of TooLarge = codes "nftrun: too large"
 line_of Differ = codes "nftrun: the rulesets differ"
-
--- a number of bytes in megabytes (10^6 bytes), with one decimal
-abbrev pub megabytes : ℕ → List ℕ
-megabytes n = decimal (n / 1000000) ++ codes "." ++ decimal (n / 100000 % 10) ++ codes " MB"
-
--- so many bytes of IN are read, of how many where its size is known
-abbrev pub progress_line : ℕ → Option ℕ → List ℕ
-progress_line count (Some size) =
-    codes "nftrun: " ++ megabytes count ++ codes " of " ++ megabytes size ++ codes " read"
-progress_line count None = codes "nftrun: " ++ megabytes count ++ codes " read"

@@ -12,7 +12,7 @@ use Rattle.program.specs.Calls.{Call, Text, read, open_input, identify, draw_key
 use Rattle.program.specs.Identity.{is_same_file}
 use Rattle.program.specs.Status.{of_run, of_error}
 use Rattle.program.specs.declared.identity.FileIdentity.{FileIdentity}
-use Rattle.program.specs.declared.running.RunInputs.{RunInputs}
+use Rattle.progress.specs.declared.running.RunInputs.{RunInputs}
 use Rattle.program.specs.declared.status.Status.{Status}
 use Rattle.program.specs.declared.status.Status.TheVariants.{SameFile, SameReport}
 

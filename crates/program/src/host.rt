@@ -2,14 +2,25 @@
 use crate::diffing::DiffInputs;
 use crate::fault::{DiffFault, ReachFault};
 use crate::identity::FileIdentity;
-use crate::running::{RunFiles, RunInputs};
 use crate::status::Status;
 use clap::Error;
 use command_line::{CheckPaths, ReplayPaths, Task};
 use engine::{Counts, RunFault};
 use explanations::Explanation;
+use progress::RunInputs;
 use std::hash::RandomState;
 use std::io;
+
+/// The files of a run.
+#[derive(Drop)]
+pub struct RunFiles<I, O> {
+    /// The capture that is read.
+    pub input: I,
+    /// The capture that is written.
+    pub output: O,
+    /// The report; without a file it goes to standard output.
+    pub report: Option<O>,
+}
 
 /// The environment of the program: its command line, files by their paths, the engine over them,
 /// and the lines that it prints.

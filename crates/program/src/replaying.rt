@@ -10,11 +10,11 @@ ghost use Rattle.program.specs.Status.{of_error};
 ghost use Rattle.program.specs.declared.status.Status.TheVariants.{SameFile};
 ghost use Rattle.program.specs.steps.AnswerStatus.{replay_status};
 
-use crate::host::Host;
+use crate::host::{Host, RunFiles};
 use crate::identity::FileIdentity;
-use crate::running::{RunFiles, RunInputs};
 use crate::status::Status;
 use command_line::ReplayTask;
+use progress::RunInputs;
 use std::io;
 
 /// The file that standard output goes to, by Linux's name (proc(5)).

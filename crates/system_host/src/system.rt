@@ -1,5 +1,5 @@
 //! The host that makes the system calls: files, outputs, and the engine over them.
-ghost use Rattle.program.specs.Outputs.{capture_bytes};
+ghost use Rattle.progress.specs.Outputs.{capture_bytes};
 ghost use Rattle.system_host.specs.steps.Promised.{IsGuaranteed, held_by};
 
 use crate::analysis::analyze;
@@ -14,10 +14,8 @@ use command_line::{CheckPaths, ReplayPaths, Task};
 use engine::{Counts, RunFault};
 use explanations::Explanation;
 use pcap_io::Counted;
-use program::{
-    DiffFault, DiffInputs, FileIdentity, Host, Progress, ProgressLine, ProgressReader, ReachFault,
-    RunFiles, RunInputs, Status, perform, run_with_progress,
-};
+use program::{DiffFault, DiffInputs, FileIdentity, Host, ReachFault, RunFiles, Status, perform};
+use progress::{Progress, ProgressLine, ProgressReader, RunInputs, run_with_progress};
 use reach_report::UnmetReasons;
 use std::env::{self, Env};
 use std::fs::OpenFile;

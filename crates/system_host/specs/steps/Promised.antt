@@ -3,7 +3,7 @@ use Rattle.std.specs.Prelude.{ℕ, List, Option, Some, None, Ok, Err}
 use Rattle.pcap_io.specs.declared.counted.Counted.{Counted}
 use Rattle.engine.specs.Judged.{Judged, JudgeRefuses}
 use Rattle.program.specs.Calls.{Call, run, judge, reach, diff}
-use Rattle.program.specs.Outputs.{Device, UsesDevices, device}
+use Rattle.progress.specs.Outputs.{Device, UsesDevices, device}
 use Rattle.system_host.specs.declared.destination.Destination.{Destination}
 use Rattle.system_host.specs.declared.destination.Destination.TheVariants.{File, Nothing}
 use Rattle.system_host.specs.steps.Analyses.{Answers}

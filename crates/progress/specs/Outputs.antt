@@ -8,7 +8,7 @@ use Rattle.engine.specs.Meaning.{WroteOutputs}
 use Rattle.engine.specs.Refusals.{Refuses, IsBeforeHeader, IsOfRecord, IsOfTexts}
 use Rattle.engine.specs.declared.fault.RunFault.{RunFault}
 use Rattle.engine.specs.declared.fault.RunFault.TheVariants.{Memory}
-use Rattle.program.specs.declared.progress_reader.ProgressReader.{ProgressReader}
+use Rattle.progress.specs.declared.progress_reader.ProgressReader.{ProgressReader}
 
 -- ---- a file whose calls are counted
 

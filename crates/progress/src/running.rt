@@ -1,5 +1,5 @@
-//! A run: what it is given, its files, and its progress.
-ghost use Rattle.program.specs.Outputs.{UsesDevices, device, capture_bytes};
+//! A run: what it is given, and its progress.
+ghost use Rattle.progress.specs.Outputs.{UsesDevices, device, capture_bytes};
 
 use crate::progress_reader::{Progress, ProgressReader};
 use engine::RunFault;
@@ -19,17 +19,6 @@ pub struct RunInputs<'a> {
     pub plant: &'a [u8],
     /// Whether the report has each verdict and each outcome.
     pub trace: bool,
-}
-
-/// The files of a run.
-#[derive(Drop)]
-pub struct RunFiles<I, O> {
-    /// The capture that is read.
-    pub input: I,
-    /// The capture that is written.
-    pub output: O,
-    /// The report; without a file it goes to standard output.
-    pub report: Option<O>,
 }
 
 /// Runs the engine on a capture, shows the progress of reading it, and returns whether the capture

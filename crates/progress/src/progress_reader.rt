@@ -164,7 +164,7 @@ struct ProgressText {
 
 impl fmt::Display for ProgressText {
     ghost use Rattle.std.specs.Prelude.{Some};
-    ghost use Rattle.program.specs.Lines.{progress_line};
+    ghost use Rattle.progress.specs.ProgressLine.{progress_line};
 
     ghost output = { λ text. Some (progress_line text.count text.size) };
 
@@ -186,7 +186,7 @@ struct Megabytes(u64);
 
 impl fmt::Display for Megabytes {
     ghost use Rattle.std.specs.Prelude.{Some};
-    ghost use Rattle.program.specs.Lines.{megabytes};
+    ghost use Rattle.progress.specs.ProgressLine.{megabytes};
 
     ghost output = { λ bytes. Some (megabytes bytes.0) };
 
