@@ -20,16 +20,16 @@ pub use Rattle.nft_tree.specs.Tree.{TableTree}
 pub use Rattle.nft_tree.specs.TreeViews.{table_tree, tables_of}
 pub use Rattle.pcap_io.specs.CaptureStates.{CaptureState, FailsBetween, IsOfRecords, NextAnswers, ReadsRecord, ahead, is_ready}
 pub use Rattle.pcap_io.specs.ReadAhead.{READ_AHEAD}
-pub use Rattle.pcap_io.specs.Counting.{AppendsPrefix, one_failure}
+pub use Rattle.devices.specs.Counting.{AppendsPrefix, one_failure}
 pub use Rattle.pcap_io.specs.Pcap.{Captured, Ending, Ends, HEADER_BYTES, IsRecord, Malformed, Over, Pcap, Recorded, Torn, Whole, decoded_after, decoded_records}
 pub use Rattle.pcap_io.specs.Pcap.{format_of, frame, header_fault, own_moment, stream_of}
 pub use Rattle.pcap_io.specs.Sll2.{Sent, sll2_header, sll2_record}
 pub use Rattle.pcap_io.specs.declared.fault.CaptureError.{CaptureError}
 pub use Rattle.pcap_io.specs.declared.fault.CaptureError.TheVariants.{Refused}
 pub use Rattle.pcap_io.specs.declared.fault.CaptureFault.{CaptureFault}
-pub use Rattle.pcap_io.specs.declared.failures.Failures.{Failures}
+pub use Rattle.devices.specs.declared.failures.Failures.{Failures}
 pub use Rattle.pcap_io.specs.declared.format.Format.{Format}
-pub use Rattle.pcap_io.specs.steps.Written.{gets_more, gets_none, gets_part, part_after, part_first, part_none, part_same, part_whole}
+pub use Rattle.devices.specs.steps.Written.{gets_more, gets_none, gets_part, part_after, part_first, part_none, part_same, part_whole}
 pub use Rattle.report.specs.Report.{closing_lines, entry_lines, lines_of, report_text}
 pub use Rattle.rule_check.specs.WellFormed.{LeastFault, WellFormed}
 pub use Rattle.rule_check.specs.declared.fault.CheckFault.{CheckFault}

@@ -8,7 +8,8 @@ use Rattle.engine.proofs.Names.{IsNotAhead, append_assoc, inl, inr, refl}
 use Rattle.std.proofs.Common.{arith}
 use Rattle.engine.proofs.Histories.{captured_more}
 use Rattle.std.proofs.lemmas.Option.{IfSome_then}
-use Rattle.pcap_io.specs.Buffering.{AppendsBuffered, SinkState}
+use Rattle.devices.specs.Counting.{AppendsBuffered}
+use Rattle.pcap_io.specs.Buffering.{SinkState}
 use Rattle.report.specs.Representing.{AppendsRest, AppendsRestPrefix, IsReportOf, ReportState, note_line}
 use Rattle.history.specs.declared.entry.Entry as lent
 

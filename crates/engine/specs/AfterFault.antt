@@ -8,9 +8,9 @@ use Rattle.pcap_io.specs.Pcap.{Captured, IsRecord, Ending, Ends, format_of, fram
 use Rattle.pcap_io.specs.Pcap.{decoded_records}
 use Rattle.pcap_io.specs.Pcap.{HEADER_BYTES, MOST_RECORDS}
 use Rattle.pcap_io.specs.ReadAhead.{READ_AHEAD}
-use Rattle.pcap_io.specs.Counting.{AppendsPrefix, one_failure}
-use Rattle.pcap_io.specs.declared.counted.Counted.{Counted}
-use Rattle.pcap_io.specs.declared.failures.Failures.{Failures}
+use Rattle.devices.specs.Counting.{AppendsPrefix, one_failure}
+use Rattle.devices.specs.declared.counted.Counted.{Counted}
+use Rattle.devices.specs.declared.failures.Failures.{Failures}
 use Rattle.nft_tree.specs.Tree.{TableTree}
 use Rattle.history.specs.History.{Entry, capture_text}
 use Rattle.report.specs.Report.{entry_lines, report_text}

@@ -1,8 +1,8 @@
 -- A run of which one record is processed at a call (own).
 use Rattle.std.specs.Prelude.{◌≡◌, ◌⊎◌, ℕ, Bool, true, List, ◌∷◌, IfSome, Option, Result, Ok, Err}
 use Rattle.pcap_io.specs.CaptureStates.{CaptureState, NextAnswers}
-use Rattle.pcap_io.specs.Counting.{one_failure}
-use Rattle.pcap_io.specs.declared.failures.Failures.{Failures}
+use Rattle.devices.specs.Counting.{one_failure}
+use Rattle.devices.specs.declared.failures.Failures.{Failures}
 use Rattle.pcap_io.specs.declared.fault.CaptureError.TheVariants as captures
 use Rattle.history.specs.History.{Entry}
 use Rattle.stepping.specs.Next.{Next}

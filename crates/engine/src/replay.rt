@@ -2,7 +2,7 @@
 ghost use Rattle.std.specs.Prelude.{◌≡◌, ◌≢◌, ◌<◌, ◌≤◌, ◌+◌, ◌⊎◌, [], length, Bool, true, false, Ok, Err, None, IfOk, IfErr};
 ghost use Rattle.std.specs.Prelude.{IsErrOf, OnOk, OnErr, MatchResult};
 ghost use Rattle.std.specs.Io.KnownBytes.{IsAtEnd};
-ghost use Rattle.pcap_io.specs.Counting.{AppendsPrefix, one_failure};
+ghost use Rattle.devices.specs.Counting.{AppendsPrefix, one_failure};
 ghost use Rattle.pcap_io.specs.CaptureStates.{is_ready};
 ghost use Rattle.pcap_io.specs.Sll2.{sll2_header};
 ghost use Rattle.pcap_io.specs.declared.sink.SinkError.{SinkError};

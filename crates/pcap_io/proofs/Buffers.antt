@@ -2,10 +2,9 @@
 use Rattle.std.proofs.Common.{◌≡◌, ℕ, ◌+◌, ◌-◌, ◌≤◌, Bool, List, [], ◌++◌, length, take, drop, sym, ap, ◌∙◌, arith}
 use Rattle.std.proofs.Common.{length-drop}
 use Rattle.std.specs.Prelude.{slice_range}
-use Rattle.std.proofs.Math.Seq.{take-add, take-append-add, paste}
+use Rattle.std.proofs.Math.Seq.{take-add, take-append-add}
 use Rattle.std.proofs.lemmas.List.{length-take, length-take-le, take-take, take-append-le, drop-drop, drop-take}
 use Rattle.std.proofs.lemmas.List.{drop-append-le}
-use Rattle.std.proofs.lemmas.List.Edits.{take-paste}
 use Rattle.std.proofs.lemmas.Slice.{between_is}
 use Rattle.pcap_io.specs.steps.ReadAhead.{BufferState}
 
@@ -38,14 +37,6 @@ taken_more bytes start end count ended fits =
     ∙ ap (λ n. drop count (take n (drop start bytes))) (sym room) in
     ap (λ t. made t (slice_range bytes (start + count) end)) front
     ∙ ap (λ h. made (take start bytes ++ take count (slice_range bytes start end)) h) back
-
--- the buffered bytes are at the front
-pub moved_down : (bytes : List ℕ) (start end : ℕ) → start ≤ end → end ≤ length bytes
-    → slice_range (paste bytes 0 (drop start bytes) (end - start)) 0 (end - start) ≡ slice_range bytes start end
-moved_down bytes start end h k =
-    let whole : length (drop start bytes) ≡ length bytes - start = length-drop start bytes in
-    ap (λ m. take m (paste bytes 0 (drop start bytes) (end - start))) (omega arith)
-    ∙ take-paste bytes 0 (drop start bytes) (end - start) (omega arith) (omega arith)
 
 -- the bytes read are behind the buffered ones
 pub held_more : (bytes buf post : List ℕ) (start end count after : ℕ) → after ≡ end + count → start ≤ end

@@ -4,6 +4,7 @@ use Rattle.std.proofs.Common.{◌++◌, ◌∙◌, Option, Some, None, Err, appe
 use Rattle.std.specs.Prelude.{IsErrOf, ◌||◌, ◌==◌, is_some, nat_lt, not, if◌then◌else◌, cond}
 use Rattle.std.proofs.lemmas.Bool.{cases_lt, true≢false}
 use Rattle.std.proofs.lemmas.Bool.Decides.{nat_tests}
+use Rattle.std.proofs.lemmas.List.{nil_from_length}
 use Rattle.pcap_io.specs.declared.fault.CaptureError.{CaptureError}
 use Rattle.pcap_io.specs.declared.format.Format.{Format}
 use Rattle.pcap_io.specs.Pcap.{Ending, Ends, Whole, Torn, Malformed, Over, IsGood, captured_length_in, fraction_in, per_second}
@@ -34,10 +35,6 @@ either false v = refl
 some_bytes : (bytes : List ℕ) → bytes ≢ [] → 0 < length bytes
 some_bytes [] some = absurd (some refl)
 some_bytes (x ∷ xs) some = omega arith
-
-pub no_bytes : (bytes : List ℕ) → length bytes ≡ 0 → bytes ≡ []
-no_bytes [] is = refl
-no_bytes (x ∷ xs) is = absurd (omega (arith, is))
 
 some_from : (bytes : List ℕ) → 0 < length bytes → bytes ≢ []
 some_from bytes long is = omega (arith, long, ap length is)
@@ -79,7 +76,7 @@ begins_at format count bytes few there is_captured is_fraction small within = rw
 -- and the other way around
 pub ends_from : (format : Format) (ending : Ending) (count : ℕ) (bytes : List ℕ)
     → count ≤ MOST_RECORDS → ending_at format count bytes ≡ Some ending → Ends format ending count bytes
-ends_from format Whole count bytes most is = no_bytes bytes (grind (arith, nat_tests))
+ends_from format Whole count bytes most is = nil_from_length bytes (grind (arith, nat_tests))
 ends_from format Over count bytes most is = (some_from bytes (grind (arith, nat_tests)), grind (arith, nat_tests))
 ends_from format Torn count bytes most is = grind (arith, some_from, cases_lt)
 ends_from format Malformed count bytes most is = grind (arith, cases_lt)

@@ -1,6 +1,3 @@
-pub mod Parts
-pub mod Devices
-pub mod Counts
 pub mod Buffers
 pub mod Steps
 pub mod Endings

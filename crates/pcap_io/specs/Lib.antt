@@ -1,5 +1,3 @@
-pub mod Counting
-pub mod CountedCalls
 pub mod Codes
 pub mod Links
 pub mod Pcap

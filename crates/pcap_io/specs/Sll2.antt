@@ -3,6 +3,7 @@
 use Rattle.std.specs.Prelude.{ℕ, ◌+◌, ◌/◌, ◌%◌, ◌^◌, ◌<◌, ◌≤◌, List, [], ◌∷◌, ◌++◌, length}
 use Rattle.std.specs.List.{flat_map}
 use Rattle.byteorder.specs.Endian.{little_bytes, big_bytes}
+use Rattle.pcap_io.specs.Pcap.{MOST_CAPTURED, NANOSECOND_MAGIC}
 use Rattle.pcap_io.specs.declared.sink.Leaving.{Leaving}
 
 -- a packet that leaves the box: the time in nanoseconds, the output interface's index, the bytes
@@ -20,9 +21,8 @@ pub record IsSent (s : Sent) : Type 0 where
 -- magic a1b23c4d, version 2.4, zone 0, sigfigs 0, snaplen 262144, link type 276
 abbrev pub sll2_header : List ℕ
 sll2_header =
-    little_bytes 4 2712812621 ++ little_bytes 2 2 ++ little_bytes 2 4 ++ little_bytes 4 0
-    ++ little_bytes 4 0
-    ++ little_bytes 4 262144 ++ little_bytes 4 276
+    little_bytes 4 NANOSECOND_MAGIC ++ little_bytes 2 2 ++ little_bytes 2 4 ++ little_bytes 4 0
+    ++ little_bytes 4 0 ++ little_bytes 4 MOST_CAPTURED ++ little_bytes 4 276
 
 -- protocol 0800, reserved 0, the interface's index, ARPHRD_ETHER (1), packet type 4 (sent by this host),
 -- address length 0, eight bytes of address; big-endian

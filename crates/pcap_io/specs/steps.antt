@@ -1,4 +1,3 @@
 pub mod ReadAhead
 pub mod CaptureInvariant
-pub mod Written
 pub mod Buffered

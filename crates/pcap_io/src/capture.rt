@@ -2,17 +2,14 @@
 ghost use Rattle.std.specs.Prelude.{◌<◌};
 ghost use Rattle.pcap_io.specs.Pcap.{MOMENTS_END};
 
-use crate::counted::Counted;
 use crate::fault::{CaptureError, CaptureFault};
-use crate::format::{Format, HEADER_BYTES, LinkType};
+use crate::format::{Format, HEADER_BYTES, LinkType, RECORD_HEADER_BYTES};
 use crate::link::{Link, LinkCause};
 use crate::read_buffer::ReadBuffer;
+use devices::Counted;
 use std::alloc::Global;
 use std::io::Read;
 use std::marker::Model;
-
-/// The length of a record's header, in bytes.
-const RECORD_HEADER_BYTES: usize = 16;
 
 /// The greatest captured length, libpcap's MAXIMUM_SNAPLEN.
 const MOST_CAPTURED: u32 = 262_144;
@@ -135,7 +132,7 @@ impl Capture {
     ghost use Rattle.std.specs.Prelude.{◌≡◌, ◌≢◌, ◌<◌, ◌≤◌, ◌+◌, ◌++◌, ℕ, List, [], length, drop, true, false, Some};
     ghost use Rattle.std.specs.Prelude.{None, Ok, Err, IfOk, IfErr, IfSome, IsNone, IsErrOf, OnOk, OnErr};
     ghost use Rattle.std.specs.Io.KnownBytes.{Consumes, IsAtEnd};
-    ghost use Rattle.pcap_io.specs.Counting.{one_failure};
+    ghost use Rattle.devices.specs.Counting.{one_failure};
     ghost use Rattle.pcap_io.specs.Pcap.{format_of, MOMENTS_END};
     ghost use Rattle.pcap_io.specs.Pcap as pcap;
     ghost use Rattle.pcap_io.specs.CaptureStates.{CaptureState, IsDone, ahead, is_ready, decides_next};
@@ -182,7 +179,10 @@ impl Capture {
                 return Err(CaptureError::Device);
             };
         }
-        let format = Format::read(buffer.held())?;
+        let format = match Format::read(buffer.held()) {
+            Ok(format) => format,
+            Err(fault) => return Err(CaptureError::Refused(fault)),
+        };
         buffer.take(HEADER_BYTES);
         Ok(Capture {
             buffer,
@@ -244,7 +244,7 @@ impl Capture {
             × (self.new.last ≡ None) }
         ensures format { self.new.format ≡ self.old.format }
         // These hold even where the reader's bytes aren't known.
-        ensures counted { result ≡ Ok true → (self.old.count < 4294967296)
+        ensures counted { result ≡ Ok true → (self.old.count < pcap.MOST_RECORDS)
             × (self.new.count ≡ self.old.count + 1) }
         ensures broken { IsNone self.old.fault → IsErrOf result CaptureError.Device
             → (self.new.ended ≡ false) × IsPartialRecord self.new.format self.new.count
@@ -267,9 +267,8 @@ impl Capture {
             → reader.new.failures ≡ reader.old.failures }
         ensures device { IsNone self.old.fault → IsErrOf result CaptureError.Device
             → reader.new.failures ≡ one_failure reader.old.failures }
-        // The seconds fit 32 bits, and at most 262,144 bytes are captured.
         ensures record { IfOk result (λ more. more ≡ true → IfSome self.new.last (λ r.
-            (r.moment < MOMENTS_END) × (length r.bytes < 262145))) }
+            (r.moment < MOMENTS_END) × (length r.bytes ≤ pcap.MOST_CAPTURED))) }
         ensures some { result ≡ Ok true → self.new.last ≢ None }
         ensures kinds { IsNone self.old.fault → IfErr result IsOfRecords }
     {
@@ -304,7 +303,7 @@ impl Capture {
         ensures stopped { result ≢ Ok true → (self.new.count ≡ self.old.count)
             × (self.new.latest ≡ self.old.latest) × (self.new.last ≡ None) }
         ensures format { self.new.format ≡ self.old.format }
-        ensures counted { result ≡ Ok true → (self.old.count < 4294967296)
+        ensures counted { result ≡ Ok true → (self.old.count < pcap.MOST_RECORDS)
             × (self.new.count ≡ self.old.count + 1) }
         ensures ended { self.new.ended ≡ self.old.ended }
         ensures finished { result ≡ Ok false → IsDone self.new }
@@ -317,7 +316,7 @@ impl Capture {
         ensures held { result ≢ Err CaptureError.Device }
         ensures going { OnOk result (self.new.fault ≡ None) }
         ensures record { IfOk result (λ more. more ≡ true → IfSome self.new.last (λ r.
-            (r.moment < MOMENTS_END) × (length r.bytes < 262145))) }
+            (r.moment < MOMENTS_END) × (length r.bytes ≤ pcap.MOST_CAPTURED))) }
         ensures some { result ≡ Ok true → self.new.last ≢ None }
     {
         let held = self.buffer.held();
@@ -359,7 +358,7 @@ impl Capture {
         ensures counted { self.new.count ≡ self.old.count + 1 }
         ensures room { length self.new.held ≤ READ_AHEAD }
         ensures record { IfSome self.new.last (λ r. (r.moment < MOMENTS_END)
-            × (length r.bytes < 262145)) }
+            × (length r.bytes ≤ pcap.MOST_CAPTURED)) }
         ensures some { self.new.last ≢ None }
     {
         self.count += 1;

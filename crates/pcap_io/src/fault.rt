@@ -1,5 +1,4 @@
 //! Errors of reading a capture.
-use std::alloc::AllocError;
 use std::fmt;
 use thiserror::Error;
 
@@ -87,27 +86,5 @@ impl fmt::Display for CaptureError {
 
     fn fmt<W: fmt::Write>(&self, f: &mut fmt::Formatter<W>) -> fmt::Result {
         f.write_str(self.code())
-    }
-}
-
-impl From<CaptureFault> for CaptureError {
-    ghost use Rattle.std.specs.Prelude.{◌≡◌};
-    ghost use Rattle.pcap_io.specs.declared.fault.CaptureError.{CaptureError};
-
-    ghost from_gives = { λ fault e. e ≡ CaptureError.Refused fault };
-
-    fn from(fault: CaptureFault) -> CaptureError {
-        CaptureError::Refused(fault)
-    }
-}
-
-impl From<AllocError> for CaptureError {
-    ghost use Rattle.std.specs.Prelude.{◌≡◌};
-    ghost use Rattle.pcap_io.specs.declared.fault.CaptureError.{CaptureError};
-
-    ghost from_gives = { λ _ e. e ≡ CaptureError.Memory };
-
-    fn from(_error: AllocError) -> CaptureError {
-        CaptureError::Memory
     }
 }

@@ -10,13 +10,16 @@ use byteorder::{BigEndian, ByteOrder, LittleEndian};
 /// The length of the file header, in bytes.
 pub const HEADER_BYTES: usize = 24;
 
+/// The length of a record's header, in bytes.
+pub const RECORD_HEADER_BYTES: usize = 16;
+
 /// The magic number of a file with timestamps in microseconds.
 const MICROSECOND_MAGIC: u32 = 0xa1b2_c3d4;
 
 /// The magic number of a file with timestamps in nanoseconds.
 const NANOSECOND_MAGIC: u32 = 0xa1b2_3c4d;
 
-const NANOSECONDS_IN_SECOND: u64 = 1_000_000_000;
+pub const NANOSECONDS_IN_SECOND: u64 = 1_000_000_000;
 
 /// The byte order of the file's numbers.
 #[derive(Clone, Copy)]

@@ -1,8 +1,6 @@
-//! Laws of the format and of failed calls, each the contract of a function that does nothing.
-ghost use Rattle.std.specs.Prelude.{◌≡◌, ◌≢◌, ◌≤◌, ◌++◌, ◌⊎◌, length, List, ℕ, Some};
+//! Laws of the format, each the contract of a function that does nothing.
+ghost use Rattle.std.specs.Prelude.{◌≡◌, ◌≤◌, ◌++◌, ◌⊎◌, length, List, ℕ, Some};
 ghost use Rattle.pcap_io.specs.declared.fault.CaptureFault.{CaptureFault};
-ghost use Rattle.pcap_io.specs.declared.failures.Failures.{Failures};
-ghost use Rattle.pcap_io.specs.Counting.{one_failure};
 ghost use Rattle.pcap_io.specs.Pcap.{Pcap, Captured, Ending, format_of, header_fault, HEADER_BYTES};
 
 /// Decoding is unique: a file is at most one list of records with one ending, in one format.
@@ -22,9 +20,4 @@ pub fn some_reading()
 pub fn header_alone()
     ensures { (bytes more : List ℕ) → HEADER_BYTES ≤ length bytes
         → format_of (bytes ++ more) ≡ format_of bytes }
-{}
-
-/// A failed call shows: after one more the number of failed calls differs, however great it was.
-pub fn failure_shows()
-    ensures { (failures : Failures) → one_failure failures ≢ failures }
 {}

@@ -3,9 +3,6 @@
 #![tactic(auto)]
 
 mod capture;
-mod counted;
-mod failing;
-mod failures;
 mod fault;
 mod format;
 mod laws;
@@ -13,18 +10,12 @@ mod link;
 mod read_buffer;
 mod record_headers;
 mod sink;
-mod slow;
-mod whole;
 mod write_buffer;
 
 pub use capture::{Capture, Record};
-pub use counted::Counted;
-pub use failing::Failing;
-pub use failures::Failures;
+pub use devices::{Counted, DeviceFailed, Failing, Failures, Slow, failure_shows, write_whole};
 pub use fault::{CaptureError, CaptureFault};
 pub use format::LinkType;
-pub use laws::{failure_shows, header_alone, one_reading, some_reading};
+pub use laws::{header_alone, one_reading, some_reading};
 pub use link::{Link, LinkCause};
 pub use sink::{Leaving, Sink, SinkError};
-pub use slow::Slow;
-pub use whole::{DeviceFailed, write_whole};

@@ -1,19 +1,18 @@
 //! A read buffer of constant size.
 ghost use Rattle.std.specs.Prelude.{◌≡◌, ◌<◌, ◌≤◌, ◌+◌, ◌++◌, [], length, take, drop, vec_len, vec_capacity, true, false, IfOk, OnOk, OnErr};
 ghost use Rattle.std.specs.Io.KnownBytes.{Keeps};
-ghost use Rattle.pcap_io.specs.Counting.{one_failure};
+ghost use Rattle.devices.specs.Counting.{one_failure};
 ghost use Rattle.pcap_io.specs.ReadAhead.{READ_AHEAD};
 ghost use Rattle.pcap_io.specs.steps.ReadAhead as ahead;
 ghost use Rattle.pcap_io.specs.steps.ReadAhead.{BufferState, FillsBuffer};
 
-use crate::counted::Counted;
-use crate::whole::DeviceFailed;
+use devices::{Counted, DeviceFailed};
 use std::alloc::{AllocError, Global};
 use std::io::Read;
 use std::marker::Model;
 
 /// The length of the largest record with its header.
-pub const BUFFER_BYTES: usize = 262_160;
+pub const READ_BUFFER_BYTES: usize = 262_160;
 
 /// Bytes that were read: the ones taken last, and behind them the ones not taken yet.
 #[derive(Drop)]
@@ -51,7 +50,7 @@ impl ReadBuffer {
         ensures { IfOk result (λ buffer. buffer ≡ record { taken = []; held = []; ended = false }) }
     {
         Ok(ReadBuffer {
-            bytes: zeros(alloc, BUFFER_BYTES)?,
+            bytes: zeros(alloc, READ_BUFFER_BYTES)?,
             start: 0,
             end: 0,
             is_ended: false,

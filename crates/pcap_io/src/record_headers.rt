@@ -2,16 +2,15 @@
 ghost use Rattle.std.specs.Prelude.{◌≡◌, ◌≤◌, ◌+◌, ◌++◌, length, take};
 ghost use Rattle.pcap_io.specs.Sll2.{IsSent, sent, sll2_record};
 
+use crate::format::{NANOSECONDS_IN_SECOND, RECORD_HEADER_BYTES};
 use crate::sink::Leaving;
 use byteorder::{BigEndian, ByteOrder, LittleEndian};
-
-const NANOSECONDS_IN_SECOND: u64 = 1_000_000_000;
 
 /// The length of an SLL2 header, in bytes.
 const LINK_HEADER_BYTES: usize = 20;
 
 /// The length of a record's header and an SLL2 header, in bytes.
-pub const HEADERS_BYTES: usize = 16 + LINK_HEADER_BYTES;
+pub const HEADERS_BYTES: usize = RECORD_HEADER_BYTES + LINK_HEADER_BYTES;
 
 /// Protocol 0x0800 (IPv4), and two reserved bytes.
 const PROTOCOL: u32 = 0x0800_0000;

@@ -1,16 +1,14 @@
 //! Writes a capture packet by packet, through one buffer.
 ghost use Rattle.std.specs.Prelude.{◌≡◌, ◌++◌, ◌+◌, ◌<◌, ◌≤◌, [], true, IfOk, OnOk, OnErr, IsErrOf, length, Err};
 ghost use Rattle.std.specs.Io.KnownBytes.{Appends};
-ghost use Rattle.pcap_io.specs.Counting.{one_failure, one_more, AppendsPrefix};
-ghost use Rattle.pcap_io.specs.Buffering.{AppendsBuffered};
+ghost use Rattle.devices.specs.Counting.{one_failure, one_more, AppendsBuffered, AppendsPrefix};
 ghost use Rattle.pcap_io.specs.Buffering as buffer;
 ghost use Rattle.pcap_io.specs.Sll2.{sll2_header, sll2_record, sent, IsSent};
 
-use crate::counted::Counted;
 use crate::record_headers::HEADERS_BYTES;
-use crate::whole::{DeviceFailed, write_whole};
 use crate::write_buffer::WriteBuffer;
-use std::alloc::{AllocError, Global};
+use devices::{Counted, DeviceFailed, write_whole};
+use std::alloc::Global;
 use std::io::Write;
 use std::marker::Model;
 use thiserror::Error;
@@ -40,28 +38,6 @@ pub enum SinkError {
     /// The buffer couldn't be allocated.
     #[error("memory")]
     Memory,
-}
-
-impl From<DeviceFailed> for SinkError {
-    ghost use Rattle.std.specs.Prelude.{◌≡◌};
-    ghost use Rattle.pcap_io.specs.declared.sink.SinkError.{SinkError};
-
-    ghost from_gives = { λ _ e. e ≡ SinkError.Device };
-
-    fn from(_error: DeviceFailed) -> SinkError {
-        SinkError::Device
-    }
-}
-
-impl From<AllocError> for SinkError {
-    ghost use Rattle.std.specs.Prelude.{◌≡◌};
-    ghost use Rattle.pcap_io.specs.declared.sink.SinkError.{SinkError};
-
-    ghost from_gives = { λ _ e. e ≡ SinkError.Memory };
-
-    fn from(_error: AllocError) -> SinkError {
-        SinkError::Memory
-    }
 }
 
 /// A capture that is written: LINKTYPE_LINUX_SLL2, nanoseconds, little-endian.
@@ -100,8 +76,8 @@ impl Sink {
         ensures writes { writer.new.writes ≤ writer.old.writes + length sll2_header }
         ensures flushes { writer.new.flushes ≡ writer.old.flushes }
     {
-        let buffered = WriteBuffer::new(alloc)?;
-        write_whole(writer, &HEADER)?;
+        let buffered = WriteBuffer::new(alloc).map_err(|_| SinkError::Memory)?;
+        write_whole(writer, &HEADER).map_err(|_| SinkError::Device)?;
         Ok(Sink { buffered })
     }
 
@@ -121,7 +97,7 @@ impl Sink {
             (W.contents writer.new.inner) (self.old.buffered ++ sll2_record (sent leaving.now))) }
         ensures err { OnErr result (self.new ≡ self.old) }
         ensures room { length self.old.buffered + length
-            (sll2_record (sent leaving.now)) ≤ buffer.BUFFER_BYTES → writer.new ≡ writer.old }
+            (sll2_record (sent leaving.now)) ≤ buffer.WRITE_BUFFER_BYTES → writer.new ≡ writer.old }
         ensures no_failure { OnOk result (writer.new.failures ≡ writer.old.failures) }
         ensures device { OnErr result (writer.new.failures ≡ one_failure writer.old.failures) }
         ensures writes { writer.new.writes ≤ writer.old.writes + length self.old.buffered }

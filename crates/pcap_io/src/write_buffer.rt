@@ -10,7 +10,7 @@ use std::alloc::{AllocError, Global};
 use std::marker::Model;
 
 /// The size of the buffer in bytes: more than the largest record.
-pub const BUFFER_BYTES: usize = 131_072;
+pub const WRITE_BUFFER_BYTES: usize = 131_072;
 
 /// Bytes that wait to be written.
 #[derive(Drop)]
@@ -22,14 +22,14 @@ pub struct WriteBuffer {
 
 impl Model for WriteBuffer {
     ghost use Rattle.std.specs.Prelude.{◌≡◌, ◌≤◌, ℕ, List, take, length, vec_capacity};
-    ghost use Rattle.pcap_io.specs.Buffering.{BUFFER_BYTES};
+    ghost use Rattle.pcap_io.specs.Buffering.{WRITE_BUFFER_BYTES};
 
     ghost Value = { List ℕ };
 
     ghost view = { λ b. take b.waiting b.bytes.items };
 
     ghost invariant = { λ b. (b.waiting ≤ length b.bytes.items)
-        × (length b.bytes.items ≡ BUFFER_BYTES) × (vec_capacity b.bytes ≡ BUFFER_BYTES) };
+        × (length b.bytes.items ≡ WRITE_BUFFER_BYTES) × (vec_capacity b.bytes ≡ WRITE_BUFFER_BYTES) };
 }
 
 impl WriteBuffer {
@@ -38,7 +38,7 @@ impl WriteBuffer {
         ensures { IfOk result (λ buffer. buffer ≡ []) }
     {
         Ok(WriteBuffer {
-            bytes: zeros(alloc, BUFFER_BYTES)?,
+            bytes: zeros(alloc, WRITE_BUFFER_BYTES)?,
             waiting: 0,
         })
     }
@@ -54,15 +54,15 @@ impl WriteBuffer {
     /// How many more bytes fit.
     #[inline(always)]
     pub fn room(&self) -> usize
-        ensures { length self.now + result ≡ buffer.BUFFER_BYTES }
+        ensures { length self.now + result ≡ buffer.WRITE_BUFFER_BYTES }
     {
-        BUFFER_BYTES - self.waiting
+        WRITE_BUFFER_BYTES - self.waiting
     }
 
     /// Appends bytes for which there is room.
     #[inline(always)]
     pub fn append(&mut self, bytes: &[u8])
-        requires { length self.old + length bytes.now ≤ buffer.BUFFER_BYTES }
+        requires { length self.old + length bytes.now ≤ buffer.WRITE_BUFFER_BYTES }
         ensures { self.new ≡ self.old ++ bytes.now }
     {
         let end = self.waiting + bytes.len();
@@ -75,7 +75,7 @@ impl WriteBuffer {
     pub fn append_record(&mut self, leaving: &Leaving)
         requires sent { IsSent (sent leaving.now) }
         requires room { length self.old + length (sll2_record (sent leaving.now))
-            ≤ buffer.BUFFER_BYTES }
+            ≤ buffer.WRITE_BUFFER_BYTES }
         ensures { self.new ≡ self.old ++ sll2_record (sent leaving.now) }
     {
         put_headers(&mut self.bytes, self.waiting, leaving);

@@ -1,8 +1,8 @@
 -- What a run does with its capture and its two outputs (own).
 use Rattle.std.specs.Prelude.{◌≡◌, ◌⊎◌, ℕ, Bool, true, List, Option, Result, Ok, Err, IfErr, IfSome, OnOk, IsErrOf}
 use Rattle.std.specs.Io.KnownBytes.{IsAtEnd}
-use Rattle.pcap_io.specs.declared.counted.Counted.{Counted}
-use Rattle.pcap_io.specs.declared.failures.Failures.{Failures}
+use Rattle.devices.specs.declared.counted.Counted.{Counted}
+use Rattle.devices.specs.declared.failures.Failures.{Failures}
 use Rattle.engine.specs.AfterFault.{CountsFault, Devices, LeftDevices}
 use Rattle.engine.specs.Meaning.{WroteOutputs}
 use Rattle.engine.specs.Refusals.{Refuses, IsBeforeHeader, IsOfRecord, IsOfTexts}

@@ -2,9 +2,9 @@
 ghost use Rattle.std.specs.Prelude.{◌≡◌, ◌+◌, ◌^◌, ◌-◌, None, min};
 ghost use Rattle.std.specs.Io.{ReadsAtMost};
 ghost use Rattle.std.specs.Io.KnownBytes.{ReadConsumes};
-ghost use Rattle.pcap_io.specs.CountedCalls.{CountsRead};
+ghost use Rattle.devices.specs.CountedCalls.{CountsFailure};
 
-use pcap_io::Counted;
+use devices::Counted;
 use std::io::{Eprint, Read};
 use std::rt::Clock;
 use std::time::Instant;
@@ -59,7 +59,7 @@ impl<R: Clock + Eprint, T: Read> Read for ProgressReader<'_, R, T> {
         ensures bytes { ReadConsumes (T.remaining self.old.input.inner)
             (T.remaining self.new.input.inner) result buf.new }
         // It fails exactly where the capture's own read does.
-        ensures fails { CountsRead self.old.input.failures self.new.input.failures result }
+        ensures fails { CountsFailure result self.old.input.failures self.new.input.failures }
     {
         let answer = self.input.read(buf);
         if let (Ok(count), Some(display)) = (&answer, &mut self.display) {

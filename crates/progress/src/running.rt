@@ -3,7 +3,7 @@ ghost use Rattle.progress.specs.Outputs.{UsesDevices, device, capture_bytes};
 
 use crate::progress_reader::{Progress, ProgressReader};
 use engine::RunFault;
-use pcap_io::Counted;
+use devices::Counted;
 use std::hash::RandomState;
 use std::io::{Read, Write};
 use std::rt::Clock;

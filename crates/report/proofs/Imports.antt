@@ -7,7 +7,7 @@ pub use Rattle.nft_tree.specs.TableItems.{chains_of, counter_in, numbered_from_o
 pub use Rattle.nft_tree.specs.Tree.{ChainTree, TableTree, Text}
 pub use Rattle.nft_tree.specs.TreeViews.{chain_tree, rule_tree, statement, table_tree, tables_of}
 pub use Rattle.nft_tree.specs.declared.statement.CounterStart.{CounterStart}
-pub use Rattle.pcap_io.specs.Counting.{AppendsPrefix}
+pub use Rattle.devices.specs.Counting.{AppendsPrefix}
 pub use Rattle.report.specs.Report.{and_number, drop_line, entry_lines, next_number, next_position}
 pub use Rattle.report.specs.Representing.{IsReportOf, ReportState, Tallies, counter_at, drops_of, note_line, tally_at, tally_of}
 pub use Rattle.report.specs.declared.notes.Note.{Note}

@@ -3,12 +3,13 @@ use Rattle.report.proofs.Imports.{Appends, AppendsPrefix, Bool, List, Option, Pu
 use Rattle.report.proofs.Imports.{drop-cons, false, flat_map, get_or, length, refl, sym, true, ℕ, ◌++◌, ◌+◌, ◌<◌, ◌∙◌, ◌≡◌}
 use Rattle.std.proofs.Common.{Err, Ok, OnErr, OnOk, Result, subst}
 use Rattle.std.specs.Prelude.{is_err}
-use Rattle.pcap_io.specs.declared.counted.Counted.{Counted}
-use Rattle.pcap_io.specs.declared.failures.Failures.{Failures}
-use Rattle.pcap_io.specs.steps.Written.{gets_more, gets_none, gets_part, part_first, part_same}
-use Rattle.pcap_io.specs.Counting.{one_failure}
+use Rattle.devices.specs.declared.counted.Counted.{Counted}
+use Rattle.devices.specs.declared.failures.Failures.{Failures}
+use Rattle.devices.specs.steps.Written.{gets_more, gets_none, gets_part, part_first, part_same}
+use Rattle.devices.specs.Counting.{one_failure}
+use Rattle.devices.specs.CountedCalls.{CountsFailure}
 use Rattle.report.specs.declared.page.Page.{Page}
-use Rattle.report.specs.steps.Paging.{CountsFailure, Goes, IsSent, Puts, WroteText}
+use Rattle.report.specs.steps.Paging.{Goes, IsSent, Puts, WroteText}
 
 goes_none : (f : Bool) (u : Text) (a : Option Text) (k : Failures) → Goes f f u a u a k k []
 goes_none false u a k = (gets_none u a, refl)

@@ -8,7 +8,7 @@ use Rattle.nft_tree.specs.declared.statement.CounterStart.{CounterStart}
 use Rattle.nft_tree.specs.Tree.{Text, TableTree}
 use Rattle.nft_tree.specs.TableItems.{counter_in, numbered_from_one, rule_numbered}
 use Rattle.rule_meaning.specs.declared.event.StatementPosition.{StatementPosition}
-use Rattle.pcap_io.specs.Counting.{AppendsPrefix}
+use Rattle.devices.specs.Counting.{AppendsPrefix}
 use Rattle.history.specs.declared.outcome.Cause.{Cause}
 use Rattle.history.specs.Outcomes.{report_index}
 use Rattle.history.specs.History.{Entry}

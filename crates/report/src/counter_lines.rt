@@ -9,8 +9,8 @@ use crate::names::{ChainInTable, family_word};
 use crate::page::Page;
 use crate::piece::Piece;
 use crate::tallies::{Location, RulesetTallies, Tally};
+use devices::Counted;
 use nft_tree::{Rule, Ruleset, Table};
-use pcap_io::Counted;
 use std::io::Write;
 
 /// Appends the lines of all counters, in the ruleset's order.

@@ -13,9 +13,9 @@ use crate::names::{
 use crate::notes::Note;
 use crate::page::Page;
 use crate::piece::Piece;
+use devices::Counted;
 use history::Outcome;
 use nft_tree::Ruleset;
-use pcap_io::Counted;
 use rule_meaning::Event;
 use std::io::Write;
 

@@ -1,13 +1,13 @@
 //! A text that is written page by page.
 ghost use Rattle.std.specs.Prelude.{◌≡◌, ◌≤◌, ◌+◌, [], false, length, OnOk, OnErr};
 ghost use Rattle.std.specs.Io.KnownBytes.{Appends};
-ghost use Rattle.pcap_io.specs.Counting.{AppendsPrefix, one_failure};
+ghost use Rattle.devices.specs.Counting.{AppendsPrefix, one_failure};
 ghost use Rattle.report.specs.steps.Paging.{IsSent, Puts, piece_text, pieces_text};
 
 use crate::piece::Piece;
 use arrayvec::ArrayVec;
+use devices::{Counted, DeviceFailed, write_whole};
 use itoa::Buffer;
-use pcap_io::{Counted, DeviceFailed, write_whole};
 use std::io::Write;
 
 /// The size of a page, in bytes.

@@ -1,13 +1,14 @@
 //! The report of a run.
 ghost use Rattle.std.specs.Prelude.{◌≡◌, ◌<◌, ◌≤◌, ◌+◌, ◌++◌, [], ◌∷◌, Bool, List, length, max, true, IfOk, IsOk, OnErr, OnOk};
-ghost use Rattle.pcap_io.specs.Counting.{one_failure, one_more};
+ghost use Rattle.devices.specs.Counting.{one_failure, one_more};
+ghost use Rattle.devices.specs.CountedCalls.{CountsFailure};
 ghost use Rattle.nft_tree.specs.Tree.{Text, TableTree};
 ghost use Rattle.nft_tree.specs.TreeViews.{tables_of};
 ghost use Rattle.history.specs.History.{Entry, IsEntry};
 ghost use Rattle.report.specs.Report.{closing_lines, entry_lines};
 ghost use Rattle.std.specs.List.{flat_map};
 ghost use Rattle.report.specs.Representing.{IsReportOf, AppendsRest, AppendsRestPrefix, note_line};
-ghost use Rattle.report.specs.steps.Paging.{CountsFailure, WroteText};
+ghost use Rattle.report.specs.steps.Paging.{WroteText};
 ghost use Rattle.report.specs.steps.Totals.{rest_text};
 
 use crate::counter_lines::put_counters;
@@ -16,9 +17,9 @@ use crate::notes::{Note, note_entry, reserve_notes};
 use crate::page::Page;
 use crate::tallies::RulesetTallies;
 use crate::total_lines::{Totals, put_totals};
+use devices::{Counted, DeviceFailed};
 use history::Outcome;
 use nft_tree::Ruleset;
-use pcap_io::{Counted, DeviceFailed};
 use std::alloc::{AllocError as Memory, Global};
 use std::io::Write;
 use std::marker::Model;

@@ -6,8 +6,8 @@ ghost use Rattle.report.specs.steps.Totals.{drops_in};
 
 use crate::page::Page;
 use crate::piece::Piece;
+use devices::Counted;
 use history::Cause;
-use pcap_io::Counted;
 use std::io::Write;
 
 /// The totals of a run.

@@ -11,9 +11,9 @@ use crate::diagnosis::{
 };
 use clap::Error;
 use command_line::{CheckPaths, ReplayPaths, Task};
+use devices::Counted;
 use engine::{Counts, RunFault};
 use explanations::Explanation;
-use pcap_io::Counted;
 use program::{DiffFault, DiffInputs, FileIdentity, Host, ReachFault, RunFiles, Status, perform};
 use progress::{Progress, ProgressLine, ProgressReader, RunInputs, run_with_progress};
 use reach_report::UnmetReasons;

@@ -1,13 +1,13 @@
-//! Readers and writers for tests: those of `pcap_io`, of which calls are short or one fails, and one
+//! Readers and writers for tests: those of `devices`, of which calls are short or one fails, and one
 //! that counts calls.
 #![tactic(auto)]
 
 ghost use Rattle.std.specs.Prelude.{◌≡◌};
-ghost use Rattle.pcap_io.specs.Counting.{one_more};
+ghost use Rattle.devices.specs.Counting.{one_more};
 ghost use Rattle.std.specs.Io.{ReadsAtMost, WritesAtMost};
 ghost use Rattle.std.specs.Io.KnownBytes.{ReadConsumes, WriteAppends, Keeps};
 
-pub use pcap_io::{Failing, Slow};
+pub use devices::{Failing, Slow};
 use std::io;
 use std::io::{Read, Write};
 

@@ -9,11 +9,10 @@ use Rattle.pcap_io.specs.Pcap.{MOST_RECORDS, format_of}
 use Rattle.pcap_io.specs.CaptureStates.{CaptureState, IsOfRecords}
 use Rattle.pcap_io.specs.ReadAhead.{READ_AHEAD}
 use Rattle.pcap_io.specs.declared.fault.CaptureError.TheVariants.{Refused}
-use Rattle.pcap_io.specs.Counting.{AppendsPrefix, one_failure}
-use Rattle.pcap_io.specs.declared.counted.Counted.{Counted}
-use Rattle.pcap_io.specs.declared.failures.Failures.{Failures}
-use Rattle.pcap_io.specs.declared.whole.DeviceFailed.{DeviceFailed}
-use Rattle.pcap_io.specs.Buffering.{AppendsBuffered}
+use Rattle.devices.specs.Counting.{AppendsBuffered, AppendsPrefix, one_failure}
+use Rattle.devices.specs.declared.counted.Counted.{Counted}
+use Rattle.devices.specs.declared.failures.Failures.{Failures}
+use Rattle.devices.specs.declared.whole.DeviceFailed.{DeviceFailed}
 use Rattle.history.specs.History.{Entry, capture_text}
 use Rattle.report.specs.Report.{entry_lines, report_text}
 use Rattle.report.specs.Representing.{IsReportOf}

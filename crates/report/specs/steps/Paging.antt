@@ -2,10 +2,9 @@
 use Rattle.std.specs.Prelude.{◌≡◌, ◌++◌, Bool, true, false, List, [], Option, Result, MatchResult, is_err}
 use Rattle.std.specs.List.{flat_map}
 use Rattle.std.specs.Io.KnownBytes.{Appends}
-use Rattle.pcap_io.specs.declared.counted.Counted.{Counted}
-use Rattle.pcap_io.specs.declared.failures.Failures.{Failures}
-use Rattle.pcap_io.specs.Counting.{AppendsPrefix, one_failure}
-use Rattle.pcap_io.specs.Buffering.{AppendsBuffered}
+use Rattle.devices.specs.declared.counted.Counted.{Counted}
+use Rattle.devices.specs.declared.failures.Failures.{Failures}
+use Rattle.devices.specs.Counting.{AppendsBuffered, AppendsPrefix, one_failure}
 use Rattle.nft_tree.specs.Tree.{Text}
 use Rattle.report.specs.declared.page.Page.{Page}
 use Rattle.report.specs.declared.piece.Piece.{Piece}
@@ -38,10 +37,6 @@ pub record PutsAllBut {W : Type 0} (contents : W → Option Text) (p : Page) (w 
   pub part : Text
   pub is : part ++ rest ≡ whole
   pub puts : Puts contents p w q x part
-
--- a failure is counted as one failed call
-abbrev pub CountsFailure : {T E : Type 0} → Result T E → Failures → Failures → Type 0
-CountsFailure r before after = MatchResult r (λ _. after ≡ before) (λ _. after ≡ one_failure before)
 
 -- a text is written, or a prefix of it where a write fails
 abbrev pub WroteText : {T E : Type 0} → Result T E → Option Text → Option Text → Text → Type 0

@@ -1,6 +1,6 @@
 -- What the engine guarantees of a call, over the system's files.
 use Rattle.std.specs.Prelude.{ℕ, List, Option, Some, None, Ok, Err}
-use Rattle.pcap_io.specs.declared.counted.Counted.{Counted}
+use Rattle.devices.specs.declared.counted.Counted.{Counted}
 use Rattle.engine.specs.Judged.{Judged, JudgeRefuses}
 use Rattle.program.specs.Calls.{Call, run, judge, reach, diff}
 use Rattle.progress.specs.Outputs.{Device, UsesDevices, device}

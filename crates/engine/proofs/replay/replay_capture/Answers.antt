@@ -3,7 +3,7 @@ use Rattle.engine.proofs.Results.{no_device, no_error, same_error}
 use Rattle.engine.proofs.Texts.{all_written, counts_begun, counts_ending, counts_later, fault_leaves_begun}
 use Rattle.engine.proofs.Texts.{fault_leaves_ended, leaves_as, of_each, of_memory, of_no_record, within_end, writer_failed_at}
 use Rattle.engine.specs.declared.runs.Summary.{Summary}
-use Rattle.pcap_io.specs.declared.counted.Counted.{Counted}
+use Rattle.devices.specs.declared.counted.Counted.{Counted}
 use Rattle.engine.proofs.replay.replay_capture.Goals as goal
 
 -- ---- the output capture can't be begun

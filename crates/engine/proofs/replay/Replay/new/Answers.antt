@@ -1,6 +1,6 @@
 use Rattle.engine.proofs.Names.{[], append-nil, err_from_is_err_and, inl, part_none, refl, sll2_header, subst, sym, List, ℕ, ◌≡◌, Err, Result}
 use Rattle.engine.proofs.Results.{no_error, same_error}
-use Rattle.pcap_io.specs.Buffering.{AppendsBuffered}
+use Rattle.devices.specs.Counting.{AppendsBuffered}
 use Rattle.pcap_io.specs.declared.sink.SinkError.{SinkError}
 use Rattle.pcap_io.specs.declared.sink.SinkError.TheVariants as sinks
 use Rattle.std.proofs.KnownBytes.{Appends-nil}

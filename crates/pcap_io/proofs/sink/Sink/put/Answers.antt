@@ -1,12 +1,26 @@
-use Rattle.std.proofs.Common.{[], ap, subst, ◌∙◌}
+use Rattle.std.proofs.Common.{◌≡◌, ℕ, List, [], ◌++◌, Option, ap, append_assoc, append-nil, arith, subst, ◌∙◌}
 use Rattle.std.proofs.lemmas.Result.{err_from_is_err_and}
-use Rattle.pcap_io.specs.steps.Written.{part_first}
-use Rattle.pcap_io.specs.Counting.{AppendsPrefix}
+use Rattle.std.specs.Io.KnownBytes.{Appends}
+use Rattle.std.proofs.KnownBytes.{Appends-nil}
+use Rattle.devices.specs.steps.Written.{part_first}
+use Rattle.devices.specs.Counting.{AppendsBuffered, AppendsPrefix}
 use Rattle.pcap_io.specs.Sll2.{sll2_record, sent}
-use Rattle.pcap_io.specs.Buffering.{AppendsBuffered}
-use Rattle.pcap_io.proofs.Parts.{drained, left_buffered, buffers_more}
 use Rattle.pcap_io.proofs.sink.Sink.put.Goals as goal
 use Rattle.pcap_io.proofs.sink.Sink.put.Goals.{then-room-leaving+in_ok-write_whole, else-room-leaving}
+
+-- the buffered bytes are written, and none are left
+drained : (a b : Option (List ℕ)) (old wrote mid : List ℕ) → Appends a b wrote → wrote ≡ old → mid ≡ []
+    → AppendsBuffered old a b mid []
+drained a b old wrote mid w is none = (old, grind arith, rw (← is) w)
+
+-- nothing is written, and the same is buffered
+left_buffered : (a : Option (List ℕ)) (old mid : List ℕ) → mid ≡ old → AppendsBuffered old a a mid []
+left_buffered a old mid is = ([], rw is (append-nil old), Appends-nil a)
+
+-- more is buffered behind
+buffers_more : (a b : Option (List ℕ)) (old mid waits bytes : List ℕ) → AppendsBuffered old a b mid []
+    → waits ≡ mid ++ bytes → AppendsBuffered old a b waits bytes
+buffers_more a b old mid waits bytes (part, e, w) is = (part, grind (arith, append-nil, append_assoc), w)
 
 pub returns-in_err-write_whole-clause-part : goal.returns-in_err-write_whole-clause-part
 returns-in_err-write_whole-clause-part g c =

@@ -2,8 +2,7 @@
 ghost use Rattle.std.specs.Prelude.{◌≡◌, true, false, length, MatchResult};
 ghost use Rattle.std.specs.Io.{ReadsAtMost, WritesAtMost};
 ghost use Rattle.std.specs.Io.KnownBytes.{ReadConsumes, WriteAppends, Keeps};
-ghost use Rattle.pcap_io.specs.Counting as counting;
-ghost use Rattle.pcap_io.specs.CountedCalls.{CountsRead, CountsWrite, CountsWritten, CountsFlush, CountsFlushed};
+ghost use Rattle.devices.specs.CountedCalls.{CountsFailure, CountsWrite, CountsWritten, CountsFlushed};
 
 use crate::failures::Failures;
 use std::io;
@@ -16,9 +15,11 @@ pub struct Counted<T> {
     /// What is wrapped. A call on it alone isn't counted.
     pub inner: T,
     failures: Failures,
+    is_flushed: bool,
+    // The others only contracts read: no write is made in vain, there is one flush, and a read is
+    // offered all the room there is.
     writes: u64,
     flushes: u64,
-    is_flushed: bool,
     room: usize,
 }
 
@@ -63,13 +64,6 @@ impl<T> Counted<T> {
     }
 }
 
-/// The number after `count`, saturating.
-fn one_more(count: u64) -> u64
-    ensures { result ≡ counting.one_more count }
-{
-    count.saturating_add(1)
-}
-
 impl<R: Read> Read for Counted<R> {
     ghost remaining = { λ c. R.remaining c.inner };
 
@@ -77,7 +71,7 @@ impl<R: Read> Read for Counted<R> {
         ensures bound { ReadsAtMost result buf.new }
         ensures bytes { ReadConsumes (R.remaining self.old.inner) (R.remaining self.new.inner)
             result buf.new }
-        ensures counts { CountsRead self.old.failures self.new.failures result }
+        ensures counts { CountsFailure result self.old.failures self.new.failures }
         ensures writes { self.new.writes ≡ self.old.writes }
         ensures flushes { self.new.flushes ≡ self.old.flushes }
         ensures flushed { self.new.is_flushed ≡ self.old.is_flushed }
@@ -99,8 +93,8 @@ impl<W: Write> Write for Counted<W> {
         ensures bound { WritesAtMost result buf.now }
         ensures bytes { WriteAppends (W.contents self.old.inner) (W.contents self.new.inner) result
             buf.now }
-        ensures counts { CountsWrite self.old.failures self.new.failures result buf.now }
-        ensures writes { CountsWritten self.old.writes self.new.writes result buf.now }
+        ensures counts { CountsWrite result buf.now self.old.failures self.new.failures }
+        ensures writes { CountsWritten result buf.now self.old.writes self.new.writes }
         ensures flushes { self.new.flushes ≡ self.old.flushes }
         ensures flushed { self.new.is_flushed ≡ false }
         ensures room { self.new.room ≡ self.old.room }
@@ -116,16 +110,16 @@ impl<W: Write> Write for Counted<W> {
         if has_failed {
             self.failures = self.failures.one_more();
         } else {
-            self.writes = one_more(self.writes);
+            self.writes = self.writes.saturating_add(1);
         }
         result
     }
 
     fn flush(&mut self) -> io::Result<()>
         ensures bytes { Keeps (W.contents self.old.inner) (W.contents self.new.inner) }
-        ensures counts { CountsFlush self.old.failures self.new.failures result }
+        ensures counts { CountsFailure result self.old.failures self.new.failures }
         ensures writes { self.new.writes ≡ self.old.writes }
-        ensures flushes { CountsFlushed self.old.flushes self.new.flushes result }
+        ensures flushes { CountsFlushed result self.old.flushes self.new.flushes }
         ensures flushed { MatchResult result (λ _. self.new.is_flushed ≡ true) (λ _.
             self.new.is_flushed ≡ self.old.is_flushed) }
         ensures room { self.new.room ≡ self.old.room }
@@ -133,7 +127,7 @@ impl<W: Write> Write for Counted<W> {
         let result = self.inner.flush();
         match &result {
             Ok(()) => {
-                self.flushes = one_more(self.flushes);
+                self.flushes = self.flushes.saturating_add(1);
                 self.is_flushed = true;
             }
             Err(_) => self.failures = self.failures.one_more(),

@@ -1,7 +1,7 @@
 -- what is gone from `rest` was appended, each write took some of it, and no call failed
 use Rattle.std.proofs.Common.{◌≡◌, ◌≤◌, ℕ, ◌+◌, List, ◌++◌, length}
 use Rattle.std.specs.Io.KnownBytes.{Appends}
-use Rattle.pcap_io.proofs.whole.write_whole.Given as goal
+use Rattle.devices.proofs.whole.write_whole.Given as goal
 
 abbrev pub invariant-loop-rest : goal.invariant-loop-rest
 invariant-loop-rest g l = record {

@@ -1,7 +1,7 @@
 //! Writes a whole byte string, by as many calls as it takes.
 ghost use Rattle.std.specs.Prelude.{◌≡◌, ◌≤◌, ◌+◌, length, OnOk, OnErr};
 ghost use Rattle.std.specs.Io.KnownBytes.{Appends};
-ghost use Rattle.pcap_io.specs.Counting.{one_failure, AppendsPrefix};
+ghost use Rattle.devices.specs.Counting.{one_failure, AppendsPrefix};
 
 use crate::counted::Counted;
 use std::io::Write;

@@ -1,6 +1,7 @@
 //! Numbers of failed calls.
-ghost use Rattle.std.specs.Prelude.{◌≡◌};
-ghost use Rattle.pcap_io.specs.Counting as counting;
+ghost use Rattle.std.specs.Prelude.{◌≡◌, ◌≢◌};
+ghost use Rattle.devices.specs.declared.failures.Failures.{Failures};
+ghost use Rattle.devices.specs.Counting as counting;
 
 /// A number of failed calls. After one more it always differs, even where `count` stays.
 #[derive(Clone, Copy)]
@@ -35,3 +36,8 @@ impl Failures {
         self.count
     }
 }
+
+/// A failed call shows: after one more the number of failed calls differs, however great it was.
+pub fn failure_shows()
+    ensures { (failures : Failures) → counting.one_failure failures ≢ failures }
+{}

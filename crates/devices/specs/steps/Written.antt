@@ -3,8 +3,7 @@ use Rattle.std.proofs.Common.{◌≡◌, refl, ℕ, List, [], ◌++◌, append_a
 use Rattle.std.specs.declared.option.Option.{Option}
 use Rattle.std.specs.Io.KnownBytes.{Appends}
 use Rattle.std.proofs.KnownBytes.{Appends-trans, Appends-nil}
-use Rattle.pcap_io.specs.Counting.{AppendsPrefix}
-use Rattle.pcap_io.specs.Buffering.{AppendsBuffered}
+use Rattle.devices.specs.Counting.{AppendsBuffered, AppendsPrefix}
 
 pub part_same : (a b : Option (List ℕ)) (xs ys : List ℕ) → AppendsPrefix a b xs → xs ≡ ys
     → AppendsPrefix a b ys
