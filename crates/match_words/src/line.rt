@@ -1,36 +1,12 @@
 //! A line as matches.
 
+use crate::words::{FIRST, LAST};
 use crate::writer::Writer;
 use box_file::Plant;
 use fact_sets::FactField;
 use packet_sets::Field;
 use set_lines::Line;
 use std::alloc::{AllocError, Global};
-
-/// The fields with a match before that of TCP's flags, in the order of their matches.
-static FIRST: [FactField; 12] = [
-    FactField::Input,
-    FactField::Output,
-    FactField::Tracking,
-    FactField::Direction,
-    FactField::ReplySeen,
-    FactField::SourceTranslated,
-    FactField::DestinationTranslated,
-    FactField::Source,
-    FactField::Destination,
-    FactField::Protocol,
-    FactField::SourcePort,
-    FactField::DestinationPort,
-];
-
-/// Those with one behind it.
-static LAST: [FactField; 5] = [
-    FactField::IcmpType,
-    FactField::Length,
-    FactField::Ttl,
-    FactField::Mark,
-    FactField::CtMark,
-];
 
 /// The fields by which a line tells packets, in the order of their bits.
 ///
@@ -69,12 +45,12 @@ pub fn put_line(
 
 /// Writes the matches of a line.
 fn put_matches(matches: &mut Writer<'_>) -> Result<(), AllocError> {
-    for field in &FIRST {
-        matches.put(*field)?;
+    for (field, form) in &FIRST {
+        matches.put(*field, *form)?;
     }
     matches.put_flags()?;
-    for field in &LAST {
-        matches.put(*field)?;
+    for (field, form) in &LAST {
+        matches.put(*field, *form)?;
     }
     Ok(())
 }

@@ -103,14 +103,11 @@ fn put_decimal(text: &mut Vec<u8>, number: u32) -> Result<(), AllocError> {
 }
 
 fn put_address(text: &mut Vec<u8>, address: u32) -> Result<(), AllocError> {
-    let [a, b, c, d] = address.to_be_bytes();
-    put_decimal(text, u32::from(a))?;
-    text.push(b'.')?;
-    put_decimal(text, u32::from(b))?;
-    text.push(b'.')?;
-    put_decimal(text, u32::from(c))?;
-    text.push(b'.')?;
-    put_decimal(text, u32::from(d))
+    for (place, octet) in address.to_be_bytes().iter().enumerate() {
+        put_between(text, place, b".")?;
+        put_decimal(text, u32::from(*octet))?;
+    }
+    Ok(())
 }
 
 /// Appends more than one address, as a prefix where they are one.

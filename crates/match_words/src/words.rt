@@ -14,16 +14,6 @@ pub(crate) enum Notation {
     IcmpType,
 }
 
-/// A field that is written as its selector and its numbers.
-#[derive(Clone, Copy)]
-pub(crate) struct Plain<'a> {
-    pub(crate) selector: &'a [u8],
-    pub(crate) notation: Notation,
-    /// The least and the greatest number that packets can have there.
-    pub(crate) least: u32,
-    pub(crate) greatest: u32,
-}
-
 /// What is written for a field.
 #[derive(Clone, Copy)]
 pub(crate) enum Form {
@@ -34,55 +24,80 @@ pub(crate) enum Form {
     Either(&'static [u8], &'static [u8]),
     /// Numbers behind the name of the protocol's header.
     Port(&'static [u8]),
-    /// A flag of TCP, written with the others.
-    TcpFlag(&'static [u8]),
     Protocol,
-    Plain(Plain<'static>),
+    /// A selector and its numbers; the least and the greatest that packets can have there.
+    Numbers(&'static [u8], Notation, u32, u32),
 }
 
-/// What is written for a field.
-pub(crate) fn form_of(field: FactField) -> Form {
-    match field {
-        FactField::Input => Form::Interfaces(b"iifname", 0),
-        FactField::Output => Form::Interfaces(b"oifname", 64),
-        FactField::Tracking => Form::State,
-        FactField::Direction => Form::Either(b"ct direction original", b"ct direction reply"),
-        FactField::DestinationTranslated => Form::Either(b"ct status != dnat", b"ct status dnat"),
-        FactField::SourceTranslated => Form::Either(b"ct status != snat", b"ct status snat"),
-        FactField::ReplySeen => Form::Either(b"ct status != seen-reply", b"ct status seen-reply"),
-        FactField::Source => selected(b"ip saddr", Notation::Address, u32::MAX),
-        FactField::Destination => selected(b"ip daddr", Notation::Address, u32::MAX),
-        FactField::Protocol => Form::Protocol,
-        FactField::SourcePort => Form::Port(b"sport"),
-        FactField::DestinationPort => Form::Port(b"dport"),
-        FactField::Fin => Form::TcpFlag(b"fin"),
-        FactField::Syn => Form::TcpFlag(b"syn"),
-        FactField::Rst => Form::TcpFlag(b"rst"),
-        FactField::Psh => Form::TcpFlag(b"psh"),
-        FactField::Ack => Form::TcpFlag(b"ack"),
-        FactField::Urg => Form::TcpFlag(b"urg"),
-        FactField::Ecn => Form::TcpFlag(b"ecn"),
-        FactField::Cwr => Form::TcpFlag(b"cwr"),
-        FactField::IcmpType => selected(b"icmp type", Notation::IcmpType, 255),
-        FactField::Length => ranged(b"ip length", Notation::Number, HEADER_LENGTH, 65_535),
-        FactField::Ttl => selected(b"ip ttl", Notation::Number, 255),
-        FactField::Mark => selected(b"meta mark", Notation::Number, u32::MAX),
-        FactField::CtMark => selected(b"ct mark", Notation::Number, u32::MAX),
-    }
-}
+/// The matches before that of TCP's flags, in the order in which they are written.
+pub(crate) static FIRST: [(FactField, Form); 12] = [
+    (FactField::Input, Form::Interfaces(b"iifname", 0)),
+    (FactField::Output, Form::Interfaces(b"oifname", 64)),
+    (FactField::Tracking, Form::State),
+    (
+        FactField::Direction,
+        Form::Either(b"ct direction original", b"ct direction reply"),
+    ),
+    (
+        FactField::ReplySeen,
+        Form::Either(b"ct status != seen-reply", b"ct status seen-reply"),
+    ),
+    (
+        FactField::SourceTranslated,
+        Form::Either(b"ct status != snat", b"ct status snat"),
+    ),
+    (
+        FactField::DestinationTranslated,
+        Form::Either(b"ct status != dnat", b"ct status dnat"),
+    ),
+    (
+        FactField::Source,
+        Form::Numbers(b"ip saddr", Notation::Address, 0, u32::MAX),
+    ),
+    (
+        FactField::Destination,
+        Form::Numbers(b"ip daddr", Notation::Address, 0, u32::MAX),
+    ),
+    (FactField::Protocol, Form::Protocol),
+    (FactField::SourcePort, Form::Port(b"sport")),
+    (FactField::DestinationPort, Form::Port(b"dport")),
+];
 
-fn selected(selector: &'static [u8], notation: Notation, greatest: u32) -> Form {
-    ranged(selector, notation, 0, greatest)
-}
+/// The flags of TCP.
+pub(crate) static FLAGS: [(FactField, &[u8]); 8] = [
+    (FactField::Fin, b"fin"),
+    (FactField::Syn, b"syn"),
+    (FactField::Rst, b"rst"),
+    (FactField::Psh, b"psh"),
+    (FactField::Ack, b"ack"),
+    (FactField::Urg, b"urg"),
+    (FactField::Ecn, b"ecn"),
+    (FactField::Cwr, b"cwr"),
+];
 
-fn ranged(selector: &'static [u8], notation: Notation, least: u32, greatest: u32) -> Form {
-    Form::Plain(Plain {
-        selector,
-        notation,
-        least,
-        greatest,
-    })
-}
+/// The matches behind it.
+pub(crate) static LAST: [(FactField, Form); 5] = [
+    (
+        FactField::IcmpType,
+        Form::Numbers(b"icmp type", Notation::IcmpType, 0, 255),
+    ),
+    (
+        FactField::Length,
+        Form::Numbers(b"ip length", Notation::Number, HEADER_LENGTH, 65_535),
+    ),
+    (
+        FactField::Ttl,
+        Form::Numbers(b"ip ttl", Notation::Number, 0, 255),
+    ),
+    (
+        FactField::Mark,
+        Form::Numbers(b"meta mark", Notation::Number, 0, u32::MAX),
+    ),
+    (
+        FactField::CtMark,
+        Form::Numbers(b"ct mark", Notation::Number, 0, u32::MAX),
+    ),
+];
 
 /// A state of connection tracking, by its codes.
 #[derive(Clone, Copy)]

@@ -3,23 +3,11 @@
 use crate::lists::{begin_choice, end_choice, put_between, put_joined};
 use crate::numbers::{meet, others, put_ranges};
 use crate::protocols::{Header, header_of, protocols};
-use crate::words::{Form, Notation, Plain, STATES, form_of};
+use crate::words::{FLAGS, Form, Notation, STATES};
 use box_file::{IfIndex, Plant};
 use fact_sets::FactField;
 use set_lines::{Line, Numbers};
 use std::alloc::{AllocError, Global};
-
-/// The flags of TCP, in the order in which they are written.
-static FLAGS: [FactField; 8] = [
-    FactField::Fin,
-    FactField::Syn,
-    FactField::Rst,
-    FactField::Psh,
-    FactField::Ack,
-    FactField::Urg,
-    FactField::Ecn,
-    FactField::Cwr,
-];
 
 /// How many protocols there are.
 const PROTOCOL_COUNT: usize = 256;
@@ -38,11 +26,12 @@ pub(crate) struct Writer<'a> {
 /// The numbers of a field, `None` where it may have any.
 fn numbers_of(line: &Line, field: FactField) -> Option<&[Numbers]> {
     let place = field.place();
-    let found = line
-        .fields
-        .iter()
-        .find(|numbers| numbers.field.first == place.first)?;
-    Some(&found.ranges)
+    for numbers in &line.fields {
+        if numbers.field.first == place.first {
+            return Some(&numbers.ranges);
+        }
+    }
+    None
 }
 
 impl<'a> Writer<'a> {
@@ -67,18 +56,19 @@ impl<'a> Writer<'a> {
     }
 
     /// Writes a field's match, if the line has the field.
-    pub(crate) fn put(&mut self, field: FactField) -> Result<(), AllocError> {
+    pub(crate) fn put(&mut self, field: FactField, form: Form) -> Result<(), AllocError> {
         let Some(numbers) = numbers_of(self.line, field) else {
             return Ok(());
         };
-        match form_of(field) {
+        match form {
             Form::Interfaces(selector, first) => self.put_interfaces(selector, first, numbers),
             Form::State => self.put_states(numbers),
             Form::Either(zero, one) => self.put_either(zero, one, numbers),
             Form::Port(port) => self.put_ports(port, numbers),
-            Form::TcpFlag(_) => Ok(()),
             Form::Protocol => self.put_protocols(),
-            Form::Plain(plain) => self.put_numbers(plain, numbers),
+            Form::Numbers(selector, notation, least, greatest) => {
+                self.put_numbers(selector, notation, least, greatest, numbers)
+            }
         }
     }
 
@@ -90,19 +80,26 @@ impl<'a> Writer<'a> {
         self.text.extend_from_slice(words)
     }
 
-    /// Writes ranges, or those that aren't among them where these are fewer; nothing where they are
-    /// all numbers.
-    fn put_numbers(&mut self, plain: Plain<'_>, numbers: &[Numbers]) -> Result<(), AllocError> {
-        let others = others(self.alloc, numbers, plain.least, plain.greatest)?;
+    /// Writes ranges, or those from the least to the greatest number that aren't among them where these
+    /// are fewer; nothing where they are all of these.
+    fn put_numbers(
+        &mut self,
+        selector: &[u8],
+        notation: Notation,
+        least: u32,
+        greatest: u32,
+        numbers: &[Numbers],
+    ) -> Result<(), AllocError> {
+        let others = others(self.alloc, numbers, least, greatest)?;
         if others.is_empty() {
             return Ok(());
         }
-        self.begin(plain.selector)?;
+        self.begin(selector)?;
         if others.len() < numbers.len() {
             self.text.extend_from_slice(b" !=")?;
-            return put_ranges(&mut self.text, plain.notation, &others);
+            return put_ranges(&mut self.text, notation, &others);
         }
-        put_ranges(&mut self.text, plain.notation, numbers)
+        put_ranges(&mut self.text, notation, numbers)
     }
 
     /// Writes the names of interfaces, of which the first has this number; nothing where all of the
@@ -115,7 +112,7 @@ impl<'a> Writer<'a> {
     ) -> Result<(), AllocError> {
         let indexes = self.plant.indexes(self.alloc)?;
         let shown = shown_of(self.alloc, &indexes, first, numbers)?;
-        if shown.is_empty() {
+        if shown.is_empty() || shows_all(&indexes, first, numbers) {
             return Ok(());
         }
         self.begin(selector)?;
@@ -159,25 +156,32 @@ impl<'a> Writer<'a> {
         }
     }
 
-    /// Whether one of the fields is written.
-    fn has(&self, fields: &[FactField]) -> bool {
-        fields
-            .iter()
-            .any(|field| numbers_of(self.line, *field).is_some())
+    /// Whether the field is written.
+    fn has(&self, field: FactField) -> bool {
+        numbers_of(self.line, field).is_some()
+    }
+
+    fn has_ports(&self) -> bool {
+        self.has(FactField::SourcePort) || self.has(FactField::DestinationPort)
+    }
+
+    fn has_flags(&self) -> bool {
+        for (flag, _) in &FLAGS {
+            if self.has(*flag) {
+                return true;
+            }
+        }
+        false
     }
 
     /// Whether a later match says the protocols.
     fn says_protocols(&self) -> bool {
         match self.header {
-            Header::Tcp => self.has_ports() || self.has(&FLAGS),
+            Header::Tcp => self.has_ports() || self.has_flags(),
             Header::Udp => self.has_ports(),
-            Header::Icmp => self.has(&[FactField::IcmpType]),
+            Header::Icmp => self.has(FactField::IcmpType),
             Header::Ports | Header::Any => false,
         }
-    }
-
-    fn has_ports(&self) -> bool {
-        self.has(&[FactField::SourcePort, FactField::DestinationPort])
     }
 
     /// Writes the protocols, where no later match says them, or those that aren't among them where
@@ -208,33 +212,25 @@ impl<'a> Writer<'a> {
             Header::Ports | Header::Icmp | Header::Any => b"th ",
         };
         let selector = [header, port].concat(self.alloc)?;
-        self.put_numbers(
-            Plain {
-                selector: &selector,
-                notation: Notation::Number,
-                least: 0,
-                greatest: 65_535,
-            },
-            numbers,
-        )
+        self.put_numbers(&selector, Notation::Number, 0, 65_535, numbers)
     }
 
     /// Writes the flags of TCP that the line has: among these, those that are set.
     pub(crate) fn put_flags(&mut self) -> Result<(), AllocError> {
-        let among = flags_of(self.alloc, self.line)?;
+        let among = flags_of(self.alloc, self.line, false)?;
         if among.is_empty() {
             return Ok(());
         }
         self.begin(b"tcp flags & ")?;
         put_flag_group(&mut self.text, &among)?;
         self.text.extend_from_slice(b" == ")?;
-        let set = set_flags_of(self.alloc, self.line)?;
+        let set = flags_of(self.alloc, self.line, true)?;
         put_flag_group(&mut self.text, &set)
     }
 }
 
 /// The interfaces of these indexes whose numbers, counted from the first one on, are listed, each
-/// once; none where all are.
+/// once.
 fn shown_of(
     alloc: Global,
     indexes: &[IfIndex],
@@ -243,19 +239,25 @@ fn shown_of(
 ) -> Result<Vec<IfIndex>, AllocError> {
     let mut shown = Vec::new(alloc);
     let mut number = first;
-    let mut all = true;
     for index in indexes {
-        if !meet(numbers, number, number) {
-            all = false;
-        } else if !shown.contains(index) {
+        if meet(numbers, number, number) && !shown.contains(index) {
             shown.push(*index)?;
         }
         number = number.saturating_add(1);
     }
-    if all {
-        shown.clear();
-    }
     Ok(shown)
+}
+
+/// Whether all are.
+fn shows_all(indexes: &[IfIndex], first: u32, numbers: &[Numbers]) -> bool {
+    let mut number = first;
+    for _ in indexes {
+        if !meet(numbers, number, number) {
+            return false;
+        }
+        number = number.saturating_add(1);
+    }
+    true
 }
 
 /// The words of the states that are among these numbers.
@@ -269,42 +271,17 @@ fn states_of(alloc: Global, numbers: &[Numbers]) -> Result<Vec<&'static [u8]>, A
     Ok(words)
 }
 
-/// The words of the flags of TCP that a line has.
-fn flags_of(alloc: Global, line: &Line) -> Result<Vec<&'static [u8]>, AllocError> {
+/// The words of the flags of TCP that a line has, or of those of them that are set.
+fn flags_of(alloc: Global, line: &Line, only_set: bool) -> Result<Vec<&'static [u8]>, AllocError> {
     let mut words = Vec::new(alloc);
-    for field in &FLAGS {
-        if numbers_of(line, *field).is_some() {
-            words.push(flag_word(*field))?;
+    for (flag, word) in &FLAGS {
+        if let Some(numbers) = numbers_of(line, *flag) {
+            if !only_set || meet(numbers, 1, 1) {
+                words.push(*word)?;
+            }
         }
     }
     Ok(words)
-}
-
-/// The words of those of them that are set.
-fn set_flags_of(alloc: Global, line: &Line) -> Result<Vec<&'static [u8]>, AllocError> {
-    let mut words = Vec::new(alloc);
-    for field in &FLAGS {
-        if is_set(line, *field) {
-            words.push(flag_word(*field))?;
-        }
-    }
-    Ok(words)
-}
-
-/// Whether a line has the bit of a field as 1.
-fn is_set(line: &Line, field: FactField) -> bool {
-    match numbers_of(line, field) {
-        Some(numbers) => meet(numbers, 1, 1),
-        None => false,
-    }
-}
-
-/// The word of a flag of TCP; empty of another field.
-fn flag_word(field: FactField) -> &'static [u8] {
-    match form_of(field) {
-        Form::TcpFlag(word) => word,
-        _ => b"",
-    }
 }
 
 /// Appends flags: 0 where there are none, more than one in parentheses.
