@@ -109,8 +109,5 @@ any_rule_end = record { set = record { node = 0 }; outcome = record { written = 
 abbrev pub any_turn : Case Turn
 any_turn = record { set = record { node = 0 }; outcome = record { verdict = None; written = any_written } }
 
-abbrev pub any_chain_end : Case ChainEnd
-any_chain_end = record { set = record { node = 0 }; outcome = record { verdict = None; written = any_written; by = None } }
-
 abbrev pub any_exit : Case Exit
 any_exit = record { set = record { node = 0 }; outcome = Next any_written }

@@ -8,7 +8,6 @@ use Rattle.nft_tree.specs.declared.ruleset.RuleNo.{RuleNo}
 use Rattle.packet_sets.specs.Sets.{DiagramsView, IsSet, Keeps, holds}
 use Rattle.rule_meaning.specs.declared.event.HookVerdict.{HookVerdict}
 use Rattle.rule_meaning.specs.declared.event.RuleVerdict.{RuleVerdict}
-use Rattle.rule_meaning.specs.declared.event.RuleVerdict.TheVariants as verdicts
 use Rattle.rule_meaning.specs.declared.facts.Facts.{Facts}
 use Rattle.rule_meaning.specs.declared.facts.Interface.{Interface}
 use Rattle.rule_meaning.specs.Runs.{Program}
@@ -18,19 +17,21 @@ use Rattle.fact_sets.specs.Cases.{AreCases}
 use Rattle.fact_sets.specs.Facts.{facts_of}
 use Rattle.rule_sets.specs.Ends.{rule_end}
 use Rattle.rule_sets.proofs.Sorting.{are-kept, keeps_same, keeps_trans}
+use Rattle.chain_ways.specs.declared.exits.RuleExit.{RuleExit}
+use Rattle.chain_ways.specs.declared.exits.RuleExit.TheVariants as exits
+use Rattle.chain_ways.specs.Exits.{IsExit, after_exit}
 use Rattle.chain_ways.specs.Ways.{Visit, Way, WayEnd, after_verdict, comes_to, end_behind_chain, ends_here, is_of_rule, meets, then_back}
 use Rattle.chain_ways.specs.Ways.{visits_before, way, way_by}
 use Rattle.chain_sets.specs.declared.outcomes.ChainEnd.{ChainEnd}
 use Rattle.chain_sets.specs.declared.outcomes.Exit.{Exit}
-use Rattle.chain_sets.specs.declared.outcomes.Exit.TheVariants.{Ends}
 use Rattle.chain_sets.specs.declared.outcomes.Course.{Course}
-use Rattle.chain_sets.specs.declared.outcomes.Course.TheVariants.{To, Jump, Goto}
+use Rattle.chain_sets.specs.declared.outcomes.Course.TheVariants.{To, Through}
 use Rattle.chain_sets.specs.declared.outcomes.Turn.{Turn}
 use Rattle.chain_sets.specs.declared.visits.RuleSets.{RuleSets}
 use Rattle.chain_sets.specs.Ends.{end_of, end_with}
 use Rattle.chain_sets.specs.steps.Looks.{AreRuleSets, Look, ends_so, in_rules, is_seen, looks, meets_last, reaches, some_state}
 use Rattle.chain_sets.specs.steps.Merging.{Adds, some_outcome, with_outcome}
-use Rattle.chain_sets.specs.steps.Outcomes.{back_by, back_from, end_without, course_by}
+use Rattle.chain_sets.specs.steps.Outcomes.{back_by, course_at, end_without, exit_behind}
 use Rattle.chain_sets.specs.steps.Turns.{GoThrough, some_turn, visit_of}
 use Rattle.chain_sets.specs.steps.Walking.{Leave, Pass, Walk, some_end, some_exit, way_from}
 use Rattle.chain_sets.proofs.Cases.{are-mapped, or-more, or-none, some-first, some-kept, some-mapped, some-one}
@@ -71,6 +72,13 @@ either d (c ∷ cs) f test other =
     shared true false false x y = refl
     shared false a b x y = refl
 
+-- it becomes of the packets of the turn
+pub record IsCourse (turn : Turn) (course : Course) : Type 0 where
+  pub rule : RuleNo
+  pub exit : RuleExit
+  pub by_verdict : IsExit turn.verdict exit
+  pub is : course ≡ course_at rule exit turn.written
+
 module _ (p : Program Statement) (interfaces : List Interface) where
   -- ---- looks along ways
 
@@ -85,58 +93,56 @@ module _ (p : Program Statement) (interfaces : List Interface) where
   -- the way behind a rule, by what becomes of its packets
   abbrev pub way_along : (into : ℕ → Facts → Way Statement) → (rest : Facts → Way Statement) → (ℕ → Bool) → Written → Course → Way Statement
   way_along into rest f w (To exit) = way_from p interfaces rest f exit
-  way_along into rest f w (Jump t) = then_back rest (into t (facts_of interfaces w f))
-  way_along into rest f w (Goto t) = into t (facts_of interfaces w f)
+  way_along into rest f w (Through t true) = then_back rest (into t (facts_of interfaces w f))
+  way_along into rest f w (Through t false) = into t (facts_of interfaces w f)
 
-  pub along : (rule : RuleNo) (into : ℕ → Facts → Way Statement) (rest : Facts → Way Statement) (f : ℕ → Bool) (w : Written) (v : Option RuleVerdict)
-      → way_along into rest f w (course_by rule v w) ≡ after_verdict into rest v (facts_of interfaces w f)
-  along rule into rest f w None = refl
-  along rule into rest f w (Some verdicts.Continue) = refl
-  along rule into rest f w (Some verdicts.Accept) = refl
-  along rule into rest f w (Some verdicts.Drop) = refl
-  along rule into rest f w (Some (verdicts.Translate a)) = refl
-  along rule into rest f w (Some verdicts.Return) = refl
-  along rule into rest f w (Some (verdicts.Jump t)) = refl
-  along rule into rest f w (Some (verdicts.Goto t)) = refl
+  along : (rule : RuleNo) (into : ℕ → Facts → Way Statement) (rest : Facts → Way Statement) (f : ℕ → Bool) (w : Written) (exit : RuleExit)
+      → way_along into rest f w (course_at rule exit w) ≡ after_exit into rest exit (facts_of interfaces w f)
+  along rule into rest f w exits.Next = refl
+  along rule into rest f w exits.End = refl
+  along rule into rest f w (exits.Over v) = refl
+  along rule into rest f w (exits.Jump t) = refl
+  along rule into rest f w (exits.Goto t) = refl
 
-  by_path : (rule : RuleNo) (d : DiagramsView) (turn : Case Turn) (path : Course) (l : ℕ) (rest : Facts → Way Statement) (look : Look) (f : ℕ → Bool)
-      → path ≡ course_by rule turn.outcome.verdict turn.outcome.written
+  by_path : (d : DiagramsView) (turn : Case Turn) (path : Course) (l : ℕ) (rest : Facts → Way Statement) (look : Look) (f : ℕ → Bool)
+      → IsCourse turn.outcome path
       → (holds d turn.set f && looks p look (way_along (way p l) rest f turn.outcome.written path))
       ≡ some_turn interfaces d (turn ∷ []) f (λ v g. looks p look (after_verdict (way p l) rest v g))
-  by_path rule d turn path l rest look f is =
-      ap (λ x. holds d turn.set f && looks p look x)
-      (ap (way_along (way p l) rest f turn.outcome.written) is ∙ along rule (way p l) rest f turn.outcome.written turn.outcome.verdict)
+  by_path d turn path l rest look f course =
+      let w = turn.outcome.written in
+      ap (λ x. holds d turn.set f && looks p look x) (ap (way_along (way p l) rest f w) course.is
+      ∙ along course.rule (way p l) rest f w course.exit ∙ course.by_verdict (way p l) rest (facts_of interfaces w f))
       ∙ sym (some-one d turn f (λ t. looks p look (after_verdict (way p l) rest t.verdict (facts_of interfaces t.written f))))
 
   -- it is at an exit
-  pub leaves_at : (rule : RuleNo) (levels : ℕ) (d : DiagramsView) (turn : Case Turn) (exit : Exit) (exits : List (Case Exit)) (rules : ℕ → ℕ → RuleSets)
-      → IsSet d turn.set → AreRuleSets d rules → To exit ≡ course_by rule turn.outcome.verdict turn.outcome.written
+  pub leaves_at : (levels : ℕ) (d : DiagramsView) (turn : Case Turn) (exit : Exit) (exits : List (Case Exit)) (rules : ℕ → ℕ → RuleSets)
+      → IsSet d turn.set → AreRuleSets d rules → IsCourse turn.outcome (To exit)
       → exits ≡ record { set = turn.set; outcome = exit } ∷ [] → Leave p interfaces levels d d (turn ∷ []) exits rules rules
-  leaves_at rule levels d turn exit exits rules is rules_are path one = record {
+  leaves_at levels d turn exit exits rules is rules_are path one = record {
     are = subst (AreCases d) (sym one) (is, tt);
     rules_are = rules_are;
     same = λ l deep rest look f. ap (λ b. in_rules d rules look f || b)
         (ap (λ xs. some_exit p interfaces d xs rest look f) one
         ∙ some-one d (record { set = turn.set; outcome = exit }) f (λ x. looks p look (way_from p interfaces rest f x))
-        ∙ by_path rule d turn (To exit) l rest look f path);
+        ∙ by_path d turn (To exit) l rest look f path);
   }
 
   -- ---- a goto
 
-  pub leaves_by_goto : (rule : RuleNo) (levels t : ℕ) (d0 d : DiagramsView) (turn : Case Turn) (ends : List (Case ChainEnd)) (exits : List (Case Exit))
-      (before after : ℕ → ℕ → RuleSets) → Goto t ≡ course_by rule turn.outcome.verdict turn.outcome.written
+  leaves_by_goto : (levels t : ℕ) (d0 d : DiagramsView) (turn : Case Turn) (ends : List (Case ChainEnd)) (exits : List (Case Exit))
+      (before after : ℕ → ℕ → RuleSets) → IsCourse turn.outcome (Through t false)
       → Walk p interfaces levels t d0 d (record { set = turn.set; outcome = turn.outcome.written } ∷ []) ends before after
-      → exits ≡ map (with_outcome Ends) ends → Leave p interfaces levels d0 d (turn ∷ []) exits before after
-  leaves_by_goto rule levels t d0 d turn ends exits before after path walk gone = record {
-    are = subst (AreCases d) (sym gone) (are-mapped d Ends ends walk.are);
+      → exits ≡ map (with_outcome (exit_behind false)) ends → Leave p interfaces levels d0 d (turn ∷ []) exits before after
+  leaves_by_goto levels t d0 d turn ends exits before after path walk gone = record {
+    are = subst (AreCases d) (sym gone) (are-mapped d (exit_behind false) ends walk.are);
     rules_are = walk.rules_are;
     same = λ l deep rest look f.
         ap (λ b. in_rules d after look f || b) (ap (λ xs. some_exit p interfaces d xs rest look f) gone
-        ∙ some-mapped d Ends ends f (λ x. looks p look (way_from p interfaces rest f x)))
+        ∙ some-mapped d (exit_behind false) ends f (λ x. looks p look (way_from p interfaces rest f x)))
         ∙ walk.same l deep look f
         ∙ ap (λ b. in_rules d0 before look f || b)
         (some-one d0 (record { set = turn.set; outcome = turn.outcome.written }) f (λ w. looks p look (way p l t (facts_of interfaces w f)))
-        ∙ by_path rule d0 turn (Goto t) l rest look f path);
+        ∙ by_path d0 turn (Through t false) l rest look f path);
   }
 
   -- ---- a jump
@@ -146,7 +152,7 @@ module _ (p : Program Statement) (interfaces : List Interface) where
   behind rest look e = looks p look (end_behind_chain rest e)
 
   exit-behind : (rest : Facts → Way Statement) (look : Look) (f : ℕ → Bool) (e : ChainEnd)
-      → looks p look (way_from p interfaces rest f (back_from e)) ≡ behind rest look (end_of interfaces f e)
+      → looks p look (way_from p interfaces rest f (exit_behind true e)) ≡ behind rest look (end_of interfaces f e)
   exit-behind rest look f e = by e.verdict
     where
       by : (v : Option HookVerdict)
@@ -157,12 +163,12 @@ module _ (p : Program Statement) (interfaces : List Interface) where
 
   -- each end of the chain leads back or is one of the whole base chain
   exits-behind : (d : DiagramsView) (ends : List (Case ChainEnd)) (exits : List (Case Exit)) (rest : Facts → Way Statement) (look : Look) (f : ℕ → Bool)
-      → exits ≡ map (with_outcome back_from) ends
+      → exits ≡ map (with_outcome (exit_behind true)) ends
       → some_exit p interfaces d exits rest look f ≡ some_end p interfaces d ends (ends_so (behind rest look)) f
   exits-behind d ends exits rest look f back =
       ap (λ xs. some_exit p interfaces d xs rest look f) back
-      ∙ some-mapped d back_from ends f (λ x. looks p look (way_from p interfaces rest f x))
-      ∙ same-tests d ends f (λ e. looks p look (way_from p interfaces rest f (back_from e))) (λ e. behind rest look (end_of interfaces f e))
+      ∙ some-mapped d (exit_behind true) ends f (λ x. looks p look (way_from p interfaces rest f x))
+      ∙ same-tests d ends f (λ e. looks p look (way_from p interfaces rest f (exit_behind true e))) (λ e. behind rest look (end_of interfaces f e))
       (exit-behind rest look f)
 
   joined : (h x y in0 in1 out none : Bool) → none ≡ false → (in1 || none) ≡ (in0 || (h && x)) → out ≡ (h && y) → (in1 || out) ≡ (in0 || (h && (x || y)))
@@ -178,7 +184,7 @@ module _ (p : Program Statement) (interfaces : List Interface) where
   module _ (levels t : ℕ) (d0 d : DiagramsView) (turn : Case Turn) (ends : List (Case ChainEnd)) (exits : List (Case Exit))
       (before after : ℕ → ℕ → RuleSets)
       (walk : Walk p interfaces levels t d0 d (record { set = turn.set; outcome = turn.outcome.written } ∷ []) ends before after)
-      (back : exits ≡ map (with_outcome back_from) ends) (l : ℕ) (deep : levels ≤ l) (rest : Facts → Way Statement) (f : ℕ → Bool) where
+      (back : exits ≡ map (with_outcome (exit_behind true)) ends) (l : ℕ) (deep : levels ≤ l) (rest : Facts → Way Statement) (f : ℕ → Bool) where
     abbrev through : Way Statement
     through = way p l t (facts_of interfaces turn.outcome.written f)
 
@@ -206,17 +212,24 @@ module _ (p : Program Statement) (interfaces : List Interface) where
         (sym (list_any-append (is_seen p (meets_last c n)) through.visits (end_behind_chain rest through.end).visits))
     comes_back (ends_so test) = found-behind (ends_so test)
 
-  pub leaves_by_jump : (rule : RuleNo) (levels t : ℕ) (d0 d : DiagramsView) (turn : Case Turn) (ends : List (Case ChainEnd)) (exits : List (Case Exit))
-      (before after : ℕ → ℕ → RuleSets) → Jump t ≡ course_by rule turn.outcome.verdict turn.outcome.written
+  leaves_by_jump : (levels t : ℕ) (d0 d : DiagramsView) (turn : Case Turn) (ends : List (Case ChainEnd)) (exits : List (Case Exit))
+      (before after : ℕ → ℕ → RuleSets) → IsCourse turn.outcome (Through t true)
       → Walk p interfaces levels t d0 d (record { set = turn.set; outcome = turn.outcome.written } ∷ []) ends before after
-      → exits ≡ map (with_outcome back_from) ends → Leave p interfaces levels d0 d (turn ∷ []) exits before after
-  leaves_by_jump rule levels t d0 d turn ends exits before after path walk back = record {
-    are = subst (AreCases d) (sym back) (are-mapped d back_from ends walk.are);
+      → exits ≡ map (with_outcome (exit_behind true)) ends → Leave p interfaces levels d0 d (turn ∷ []) exits before after
+  leaves_by_jump levels t d0 d turn ends exits before after path walk back = record {
+    are = subst (AreCases d) (sym back) (are-mapped d (exit_behind true) ends walk.are);
     rules_are = walk.rules_are;
     same = λ l deep rest look f.
         comes_back levels t d0 d turn ends exits before after walk back l deep rest f look
-        ∙ ap (λ b. in_rules d0 before look f || b) (by_path rule d0 turn (Jump t) l rest look f path);
+        ∙ ap (λ b. in_rules d0 before look f || b) (by_path d0 turn (Through t true) l rest look f path);
   }
+
+  pub leaves_through : (is_jump : Bool) (levels t : ℕ) (d0 d : DiagramsView) (turn : Case Turn) (ends : List (Case ChainEnd)) (exits : List (Case Exit))
+      (before after : ℕ → ℕ → RuleSets) → IsCourse turn.outcome (Through t is_jump)
+      → Walk p interfaces levels t d0 d (record { set = turn.set; outcome = turn.outcome.written } ∷ []) ends before after
+      → exits ≡ map (with_outcome (exit_behind is_jump)) ends → Leave p interfaces levels d0 d (turn ∷ []) exits before after
+  leaves_through true = leaves_by_jump
+  leaves_through false = leaves_by_goto
 
   -- ---- turn after turn
 

@@ -12,26 +12,34 @@ use Rattle.chain_graph.specs.Graph.{Call}
 use Rattle.packet_sets.specs.declared.fault.SetError.{SetError}
 use Rattle.packet_sets.specs.declared.fault.SetError.TheVariants as sets
 use Rattle.packet_sets.specs.Sets.{DiagramsView}
+use Rattle.rule_meaning.specs.declared.event.HookVerdict.TheVariants as hooks
 use Rattle.rule_meaning.specs.declared.event.RuleVerdict.{RuleVerdict}
 use Rattle.rule_meaning.specs.declared.event.RuleVerdict.TheVariants as verdicts
+use Rattle.rule_meaning.specs.declared.facts.Facts.{Facts}
 use Rattle.rule_meaning.specs.declared.facts.Interface.{Interface}
 use Rattle.rule_meaning.specs.Runs.{Program}
 use Rattle.fact_sets.specs.declared.cases.Case.{Case}
 use Rattle.fact_sets.specs.declared.written.Written.{Written}
 use Rattle.fact_sets.specs.Facts.{facts_of}
 use Rattle.rule_sets.specs.Ends.{outcomes_for, rule_end}
+use Rattle.chain_ways.specs.declared.exits.RuleExit.{RuleExit}
+use Rattle.chain_ways.specs.declared.exits.RuleExit.TheVariants as exits
+use Rattle.chain_ways.specs.Exits.{after_exit}
 use Rattle.chain_ways.specs.Laws.{statements_at}
 use Rattle.chain_ways.specs.Nesting.{NestsOver, verdict_by, verdict_of}
+use Rattle.chain_ways.specs.Ways.{Visit, Way, WayEnd, after_verdict, ended, ends_here, over}
 use Rattle.chain_sets.specs.declared.fault.WalkError.{WalkError}
 use Rattle.chain_sets.specs.declared.fault.WalkError.TheVariants.{TooDeep}
-use Rattle.chain_sets.specs.declared.outcomes.Course.TheVariants.{Jump, Goto}
+use Rattle.chain_sets.specs.declared.outcomes.Course.{Course}
+use Rattle.chain_sets.specs.declared.outcomes.Course.TheVariants.{To, Through}
 use Rattle.chain_sets.specs.declared.outcomes.Turn.{Turn}
 use Rattle.chain_sets.specs.declared.visits.RuleSets.{RuleSets}
 use Rattle.chain_sets.specs.Errors.{walk_error}
 use Rattle.chain_sets.specs.steps.Merging.{HavePackets}
 use Rattle.chain_sets.specs.steps.Nesting.{RuleNests, SomeTurnNests, VerdictNests}
-use Rattle.chain_sets.specs.steps.Outcomes.{course_by}
+use Rattle.chain_sets.specs.steps.Outcomes.{course_at}
 use Rattle.chain_sets.specs.steps.Turns.{GoThrough}
+use Rattle.chain_sets.proofs.Levels.{IsCourse}
 use Rattle.chain_sets.proofs.Packets.{packet-of, some-among}
 
 -- sets alone are never too deep
@@ -50,25 +58,42 @@ never error r Q is = passed_on r (λ e. e ≡ TooDeep → Q) (λ e it deep. absu
 
 -- ---- a turn
 
-jumped : (rule : RuleNo) (v : Option RuleVerdict) (w : Written) (t : ℕ) → Jump t ≡ course_by rule v w → v ≡ Some (verdicts.Jump t)
-jumped rule None w t is = cc
-jumped rule (Some verdicts.Continue) w t is = cc
-jumped rule (Some verdicts.Accept) w t is = cc
-jumped rule (Some verdicts.Drop) w t is = cc
-jumped rule (Some (verdicts.Translate a)) w t is = cc
-jumped rule (Some verdicts.Return) w t is = cc
-jumped rule (Some (verdicts.Jump u)) w t is = cc
-jumped rule (Some (verdicts.Goto u)) w t is = cc
+-- the jump or goto that leads through a chain
+abbrev through : Course → Option RuleVerdict
+through (To exit) = None
+through (Through t is_jump) = Some (verdict_by is_jump t)
 
-gone : (rule : RuleNo) (v : Option RuleVerdict) (w : Written) (t : ℕ) → Goto t ≡ course_by rule v w → v ≡ Some (verdicts.Goto t)
-gone rule None w t is = cc
-gone rule (Some verdicts.Continue) w t is = cc
-gone rule (Some verdicts.Accept) w t is = cc
-gone rule (Some verdicts.Drop) w t is = cc
-gone rule (Some (verdicts.Translate a)) w t is = cc
-gone rule (Some verdicts.Return) w t is = cc
-gone rule (Some (verdicts.Jump u)) w t is = cc
-gone rule (Some (verdicts.Goto u)) w t is = cc
+-- and that which a way shows, if a chain that was gone to ends, and nothing that was jumped from does
+abbrev shown_by : List (Visit Statement) → WayEnd → Option RuleVerdict
+shown_by [] e = None
+shown_by (v ∷ vs) (ended f) = Some (verdicts.Goto v.chain)
+shown_by (v ∷ vs) (over verdict f) = Some (verdicts.Jump v.chain)
+
+abbrev shown : Way Statement → Option RuleVerdict
+shown way = shown_by way.visits way.end
+
+abbrev into : ℕ → Facts → Way Statement
+into t f = record { visits = record { chain = t; rule = 0; statements = []; facts = f } ∷ []; end = ended f }
+
+abbrev rest : Facts → Way Statement
+rest f = ends_here (over hooks.Dropped f)
+
+shown_through : (rule : RuleNo) (exit : RuleExit) (w : Written) (f : Facts) → through (course_at rule exit w) ≡ shown (after_exit into rest exit f)
+shown_through rule exits.Next w f = refl
+shown_through rule exits.End w f = refl
+shown_through rule (exits.Over v) w f = refl
+shown_through rule (exits.Jump t) w f = refl
+shown_through rule (exits.Goto t) w f = refl
+
+given : (v : Option RuleVerdict) (u : RuleVerdict) (f : Facts) → Some u ≡ shown (after_verdict into rest v f) → v ≡ Some u
+given None u f is = cc
+given (Some verdicts.Continue) u f is = cc
+given (Some verdicts.Accept) u f is = cc
+given (Some verdicts.Drop) u f is = cc
+given (Some (verdicts.Translate a)) u f is = cc
+given (Some verdicts.Return) u f is = cc
+given (Some (verdicts.Jump t)) u f is = sym is
+given (Some (verdicts.Goto t)) u f is = sym is
 
 -- ---- tests of verdicts
 
@@ -115,15 +140,14 @@ found test (x ∷ xs) is = by (test x) refl is (found test xs)
     by false here is later = later is
 
 module _ (p : Program Statement) where
-  pub jump_nests : (rule : RuleNo) (levels t : ℕ) (turn : Turn) → Jump t ≡ course_by rule turn.verdict turn.written → NestsOver p levels t
+  pub call_nests : (levels t : ℕ) (is_jump : Bool) (turn : Turn) (f : Facts) → IsCourse turn (Through t is_jump) → NestsOver p levels t
       → VerdictNests p levels turn.verdict
-  jump_nests rule levels t turn is nests =
-      record { call = record { to = t; is_jump = true }; is = jumped rule turn.verdict turn.written t is; nests = nests }
-
-  pub goto_nests : (rule : RuleNo) (levels t : ℕ) (turn : Turn) → Goto t ≡ course_by rule turn.verdict turn.written → NestsOver p levels t
-      → VerdictNests p levels turn.verdict
-  goto_nests rule levels t turn is nests =
-      record { call = record { to = t; is_jump = false }; is = gone rule turn.verdict turn.written t is; nests = nests }
+  call_nests levels t is_jump turn f course nests = record {
+    call = record { to = t; is_jump = is_jump };
+    is = given turn.verdict (verdict_by is_jump t) f
+        (ap through course.is ∙ shown_through course.rule course.exit turn.written f ∙ ap shown (course.by_verdict into rest f));
+    nests = nests;
+  }
 
   -- some packet of the turn has the rule's verdict, with the facts of some state
   pub rule_nests : (interfaces : List Interface) (levels c n : ℕ) (ss : List Statement) (d0 d : DiagramsView) (states : List (Case Written))

@@ -1,11 +1,11 @@
 //! Where packets are behind a rule, and how their ways end.
 ghost use Rattle.std.specs.Prelude.{◌≡◌, ◌∷◌, [], map, true, IfOk, None};
 ghost use Rattle.std.specs.List.{filter_map};
-ghost use Rattle.chain_sets.specs.steps.Outcomes.{back_from, case_if, course_by, end_by, end_in, end_without, turn_at, written_next};
+ghost use Rattle.chain_sets.specs.steps.Outcomes.{case_if, course_at, end_by, end_in, end_without, exit_behind, turn_at, written_next};
 ghost use Rattle.chain_sets.specs.steps.Merging.{with_outcome};
 
 use crate::merging::Merge;
-use chain_ways::{RuleExit, rule_exit};
+use chain_ways::RuleExit;
 use fact_sets::{Case, Written};
 use nft_tree::RuleNo;
 use packet_sets::PacketSet;
@@ -161,43 +161,32 @@ pub(crate) fn one_exit(
     Ok(exits)
 }
 
-/// Where packets are behind a jump to a chain that ends so: where it gave no verdict, at the next
-/// rule.
-fn exit_back(end: ChainEnd) -> Exit
-    ensures { result ≡ back_from end }
+/// Where packets are behind a chain that ended so: a jump comes back to the next rule where the chain
+/// gave no verdict, and behind a goto their own chain ends where the other does.
+fn exit_behind(is_jump: bool, end: ChainEnd) -> Exit
+    ensures { result ≡ exit_behind is_jump end }
 {
     match end.verdict {
-        None => Exit::Next(end.written),
-        Some(_) => Exit::Ends(end),
+        None if is_jump => Exit::Next(end.written),
+        _ => Exit::Ends(end),
     }
 }
 
-/// Where they are behind a jump to a chain with these ends.
-pub(crate) fn back(alloc: Global, ends: &[Case<ChainEnd>]) -> Result<Vec<Case<Exit>>, AllocError>
-    ensures { IfOk result (λ exits. exits.items ≡ map (with_outcome back_from) ends.now) }
+/// Where they are behind a chain with these ends.
+pub(crate) fn behind(
+    alloc: Global,
+    is_jump: bool,
+    ends: &[Case<ChainEnd>],
+) -> Result<Vec<Case<Exit>>, AllocError>
+    ensures { IfOk result (λ exits. exits.items
+        ≡ map (with_outcome (exit_behind is_jump)) ends.now) }
 {
-    let mut exits = Vec::new(alloc);
-    for end in ends {
-        exits.push(Case {
+    ends.iter()
+        .map(|end| Case {
             set: end.set,
-            outcome: exit_back(end.outcome),
-        })?;
-    }
-    Ok(exits)
-}
-
-/// Where they are behind a goto: their chain ends where the other does.
-pub(crate) fn gone(alloc: Global, ends: &[Case<ChainEnd>]) -> Result<Vec<Case<Exit>>, AllocError>
-    ensures { IfOk result (λ exits. exits.items ≡ map (with_outcome Exit.Ends) ends.now) }
-{
-    let mut exits = Vec::new(alloc);
-    for end in ends {
-        exits.push(Case {
-            set: end.set,
-            outcome: Exit::Ends(end.outcome),
-        })?;
-    }
-    Ok(exits)
+            outcome: exit_behind(is_jump, end.outcome),
+        })
+        .collect(alloc)
 }
 
 /// Those that are at the next rule.
@@ -235,6 +224,17 @@ pub(crate) fn chain_ends(
     Ok(ends)
 }
 
+/// At the end of the chain.
+fn end_without(written: Written) -> ChainEnd
+    ensures { result ≡ end_without written }
+{
+    ChainEnd {
+        verdict: None,
+        written,
+        by: None,
+    }
+}
+
 /// Packets that no rule is left for: they are at the chain's end.
 pub(crate) fn ended(
     alloc: Global,
@@ -246,11 +246,7 @@ pub(crate) fn ended(
         .iter()
         .map(|state| Case {
             set: state.set,
-            outcome: ChainEnd {
-                verdict: None,
-                written: state.outcome,
-                by: None,
-            },
+            outcome: end_without(state.outcome),
         })
         .collect(alloc)
 }
@@ -259,44 +255,37 @@ pub(crate) fn ended(
 #[derive(Clone, Copy)]
 pub(crate) enum Course {
     To(Exit),
-    /// Through the chain with this index, and then to the next rule.
-    Jump(u32),
-    /// Through that chain in place of the rest of this one.
-    Goto(u32),
-}
-
-/// At the end of the chain.
-fn at_end(written: Written) -> Course
-    ensures { result ≡ Course.To (Exit.Ends (end_without written)) }
-{
-    Course::To(Exit::Ends(ChainEnd {
-        verdict: None,
-        written,
-        by: None,
-    }))
+    /// Through the chain with this index: by a jump, and then to the next rule; or by a goto, in place
+    /// of the rest of this one.
+    Through { chain: u32, is_jump: bool },
 }
 
 /// At a verdict of the rule for the base chain.
-fn over(rule: RuleNo, verdict: HookVerdict, written: Written) -> Course
-    ensures { result ≡ Course.To (Exit.Ends (end_by rule verdict written)) }
+fn end_by(rule: RuleNo, verdict: HookVerdict, written: Written) -> ChainEnd
+    ensures { result ≡ end_by rule verdict written }
 {
-    Course::To(Exit::Ends(ChainEnd {
+    ChainEnd {
         verdict: Some(verdict),
         written,
         by: Some(rule),
-    }))
+    }
 }
 
-/// What becomes of them, by the verdict of the rule.
-pub(crate) fn course_of(rule: RuleNo, turn: Turn) -> Course
-    ensures { result ≡ course_by rule turn.verdict turn.written }
+/// What becomes of them, by where the rule sends them.
+pub(crate) fn course_of(rule: RuleNo, exit: RuleExit, written: Written) -> Course
+    ensures { result ≡ course_at rule exit written }
 {
-    let written = turn.written;
-    match rule_exit(turn.verdict) {
+    match exit {
         RuleExit::Next => Course::To(Exit::Next(written)),
-        RuleExit::End => at_end(written),
-        RuleExit::Over(verdict) => over(rule, verdict, written),
-        RuleExit::Jump(chain) => Course::Jump(chain),
-        RuleExit::Goto(chain) => Course::Goto(chain),
+        RuleExit::End => Course::To(Exit::Ends(end_without(written))),
+        RuleExit::Over(verdict) => Course::To(Exit::Ends(end_by(rule, verdict, written))),
+        RuleExit::Jump(chain) => Course::Through {
+            chain,
+            is_jump: true,
+        },
+        RuleExit::Goto(chain) => Course::Through {
+            chain,
+            is_jump: false,
+        },
     }
 }

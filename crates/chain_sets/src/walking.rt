@@ -18,11 +18,12 @@ ghost use Rattle.chain_sets.specs.steps.Walking.{Leave, Pass, Walk};
 use crate::fault::WalkError;
 use crate::merging::add_cases;
 use crate::outcomes::{
-    ChainEnd, Course, Exit, Turn, back, chain_ends, course_of, ended, gone, next, one_exit,
+    ChainEnd, Course, Exit, Turn, behind, chain_ends, course_of, ended, next, one_exit,
 };
 use crate::table::{TableSetting, rules_of};
 use crate::turns::rule_turns;
 use crate::visits::Visits;
+use chain_ways::rule_exit;
 use fact_sets::{Case, Written};
 use nft_tree::{RuleNo, Stmt};
 use packet_sets::Diagrams;
@@ -57,13 +58,14 @@ fn turn_exits(
         table.entry.number table.entry.setting.names.now)
         levels turn.outcome.verdict) }
 {
-    let state = Case {
-        set: turn.set,
-        outcome: turn.outcome.written,
-    };
-    match course_of(rule, turn.outcome) {
+    let written = turn.outcome.written;
+    match course_of(rule, rule_exit(turn.outcome.verdict), written) {
         Course::To(exit) => Ok(one_exit(alloc, turn.set, exit)?),
-        Course::Jump(chain) => {
+        Course::Through { chain, is_jump } => {
+            let state = Case {
+                set: turn.set,
+                outcome: written,
+            };
             let ends = walk_chain(
                 alloc,
                 diagrams,
@@ -74,20 +76,7 @@ fn turn_exits(
                 &[state],
                 visits,
             )?;
-            Ok(back(alloc, &ends)?)
-        }
-        Course::Goto(chain) => {
-            let ends = walk_chain(
-                alloc,
-                diagrams,
-                lookups,
-                table,
-                levels,
-                chain,
-                &[state],
-                visits,
-            )?;
-            Ok(gone(alloc, &ends)?)
+            Ok(behind(alloc, is_jump, &ends)?)
         }
     }
 }

@@ -1,17 +1,22 @@
--- Where packets go on behind a rule; so do ways (`after_verdict`). (nft(8), "Verdict statements")
-use Rattle.std.specs.Prelude.{Option, Some, None}
-use Rattle.rule_meaning.specs.declared.event.HookVerdict.TheVariants as hooks
+-- Where packets go on behind a rule: so that their ways do as nft(8) says, "Verdict statements".
+use Rattle.std.specs.Prelude.{◌≡◌, ℕ, Option}
+use Rattle.nft_tree.specs.Tree.{Statement}
 use Rattle.rule_meaning.specs.declared.event.RuleVerdict.{RuleVerdict}
-use Rattle.rule_meaning.specs.declared.event.RuleVerdict.TheVariants as verdicts
+use Rattle.rule_meaning.specs.declared.facts.Facts.{Facts}
 use Rattle.chain_ways.specs.declared.exits.RuleExit.{RuleExit}
 use Rattle.chain_ways.specs.declared.exits.RuleExit.TheVariants.{Next, End, Over, Jump, Goto}
+use Rattle.chain_ways.specs.Ways.{Way, after_verdict, ended, ends_here, over, then_back}
 
-abbrev pub exit_by : Option RuleVerdict → RuleExit
-exit_by None = Next
-exit_by (Some verdicts.Continue) = Next
-exit_by (Some verdicts.Accept) = Over hooks.Accepted
-exit_by (Some verdicts.Drop) = Over hooks.Dropped
-exit_by (Some (verdicts.Translate action)) = Over (hooks.Translated action)
-exit_by (Some verdicts.Return) = End
-exit_by (Some (verdicts.Jump chain)) = Jump chain
-exit_by (Some (verdicts.Goto chain)) = Goto chain
+-- the way from an exit on, by those through other chains and through the rules behind
+abbrev pub after_exit : (into : ℕ → Facts → Way Statement) → (rest : Facts → Way Statement) → RuleExit → Facts
+    → Way Statement
+after_exit into rest Next f = rest f
+after_exit into rest End f = ends_here (ended f)
+after_exit into rest (Over verdict) f = ends_here (over verdict f)
+after_exit into rest (Jump chain) f = then_back rest (into chain f)
+after_exit into rest (Goto chain) f = into chain f
+
+-- whatever those are, it is the way behind the verdict
+abbrev pub IsExit : Option RuleVerdict → RuleExit → Type 0
+IsExit verdict exit = (into : ℕ → Facts → Way Statement) (rest : Facts → Way Statement) (f : Facts)
+    → after_exit into rest exit f ≡ after_verdict into rest verdict f

@@ -1,6 +1,5 @@
 //! Where packets go on behind a rule.
-ghost use Rattle.std.specs.Prelude.{◌≡◌};
-ghost use Rattle.chain_ways.specs.Exits.{exit_by};
+ghost use Rattle.chain_ways.specs.Exits.{IsExit};
 
 use rule_meaning::{HookVerdict, RuleVerdict};
 
@@ -21,7 +20,7 @@ pub enum RuleExit {
 
 /// Where a packet goes on behind a rule, by the verdict that the rule gave, if it gave one.
 pub fn rule_exit(verdict: Option<RuleVerdict>) -> RuleExit
-    ensures { result ≡ exit_by verdict }
+    ensures { IsExit verdict result }
 {
     match verdict {
         None | Some(RuleVerdict::Continue) => RuleExit::Next,

@@ -8,19 +8,19 @@ use Rattle.rule_types.specs.Types.{rule_mismatches, statement_mismatches}
 use Rattle.rule_values.specs.Faults.{statement_out_of_range}
 use Rattle.rule_meaning.specs.Runs.{table_program}
 use Rattle.fact_sets.specs.Cases.{AreCases}
+use Rattle.fact_sets.specs.Facts.{facts_of}
 use Rattle.rule_sets.proofs.Deciding.{declared_kept, extends_trans}
 use Rattle.rule_sets.proofs.Sorting.{are-kept, keeps_trans}
-use Rattle.chain_sets.specs.declared.outcomes.Exit.TheVariants.{Ends}
 use Rattle.chain_sets.specs.RuleSets.{sets_of}
 use Rattle.chain_sets.specs.steps.Merging.{Adds, with_outcome}
-use Rattle.chain_sets.specs.steps.Outcomes.{back_from, end_without}
+use Rattle.chain_sets.specs.steps.Outcomes.{end_without, exit_behind}
 use Rattle.chain_sets.specs.steps.Nesting.{RuleNests, SomeTurnNests}
 use Rattle.chain_sets.specs.steps.Turns.{GoThrough}
 use Rattle.chain_sets.specs.steps.Walking.{Pass, statements_in}
 use Rattle.chain_sets.proofs.Cases.{are-at, are-mapped}
 use Rattle.chain_sets.proofs.Exits.{any_turn, ends-are, ends_in, states_in}
-use Rattle.chain_sets.proofs.Levels.{exits_more, exits_next, leaves_by_goto, leaves_by_jump, passes, rules_all, rules_more}
-use Rattle.chain_sets.proofs.Nesting.{chain_nests, goto_nests, jump_nests, never, none_left, passed_on, rule_nests}
+use Rattle.chain_sets.proofs.Levels.{exits_more, exits_next, leaves_through, passes, rules_all, rules_more}
+use Rattle.chain_sets.proofs.Nesting.{call_nests, chain_nests, never, none_left, passed_on, rule_nests}
 use Rattle.chain_sets.proofs.TableRules.{bounds-free, none-at, program-rules, rule_out_of_range, statements-at, statements-long, types-free}
 use Rattle.chain_sets.proofs.walking.+walking.Goals as goal
 
@@ -151,31 +151,20 @@ rule_exits-returns-in_err-add_cases-clause-too_deep t c = never _ c.from_residua
 
 -- ---- one turn
 
-pub turn_exits-returns-in_ok-back-in-Jump-clause-value : goal.turn_exits-returns-in_ok-back-in-Jump-clause-value
-turn_exits-returns-in_ok-back-in-Jump-clause-value t c =
-    leaves_by_jump (table_program c.args.table.setting.plant.now c.args.table.number c.args.table.setting.names.now) c.args.table.interfaces.now
-    c.args.rule c.args.levels c.in-Jump.chain c.args.diagrams.now c.walk_chain.new.diagrams c.args.turn c.in_ok-ends-in-Jump.ends.items
-    c.in_ok-back-in-Jump.field-0.items (sets_of c.args.visits.now) (sets_of c.walk_chain.new.visits) (sym c.in-Jump.is ∙ c.course_of.ensures)
-    c.in_ok-ends-in-Jump.ensures.value (c.in_ok-back-in-Jump.ensures ∙ ap (map (with_outcome back_from)) c.deref.ensures.value)
+pub turn_exits-returns-in_ok-behind-in-Through-clause-value : goal.turn_exits-returns-in_ok-behind-in-Through-clause-value
+turn_exits-returns-in_ok-behind-in-Through-clause-value t c =
+    leaves_through (table_program c.args.table.setting.plant.now c.args.table.number c.args.table.setting.names.now) c.args.table.interfaces.now
+    c.in-Through.is_jump c.args.levels c.in-Through.chain c.args.diagrams.now c.walk_chain.new.diagrams c.args.turn c.in_ok-ends-in-Through.ends.items
+    c.in_ok-behind-in-Through.field-0.items (sets_of c.args.visits.now) (sets_of c.walk_chain.new.visits)
+    (record { rule = c.args.rule; exit = c.rule_exit.result; by_verdict = c.rule_exit.ensures; is = sym c.in-Through.is ∙ c.course_of.ensures })
+    c.in_ok-ends-in-Through.ensures.value (c.in_ok-behind-in-Through.ensures ∙ ap (map (with_outcome (exit_behind c.in-Through.is_jump))) c.deref.ensures.value)
 
-pub turn_exits-returns-in_ok-gone-in-Goto-clause-value : goal.turn_exits-returns-in_ok-gone-in-Goto-clause-value
-turn_exits-returns-in_ok-gone-in-Goto-clause-value t c =
-    leaves_by_goto (table_program c.args.table.setting.plant.now c.args.table.number c.args.table.setting.names.now) c.args.table.interfaces.now
-    c.args.rule c.args.levels c.in-Goto.chain c.args.diagrams.now c.walk_chain-in-Goto.new.diagrams c.args.turn c.in_ok-ends-in-Goto.ends.items
-    c.in_ok-gone-in-Goto.field-0.items (sets_of c.args.visits.now) (sets_of c.walk_chain-in-Goto.new.visits) (sym c.in-Goto.is ∙ c.course_of.ensures)
-    c.in_ok-ends-in-Goto.ensures.value (c.in_ok-gone-in-Goto.ensures ∙ ap (map (with_outcome Ends)) c.deref-in-Goto.ensures.value)
-
-pub turn_exits-returns-in_err-ends-in-Jump-clause-too_deep : goal.turn_exits-returns-in_err-ends-in-Jump-clause-too_deep
-turn_exits-returns-in_err-ends-in-Jump-clause-too_deep t c = passed_on c.from_residual-in_err-ends-in-Jump.result _ (λ e same deep.
-    jump_nests (table_program c.args.table.setting.plant.now c.args.table.number c.args.table.setting.names.now) c.args.rule c.args.levels
-    c.in-Jump.chain c.args.turn.outcome (sym c.in-Jump.is ∙ c.course_of.ensures) (c.in_err-ends-in-Jump.ensures.too_deep (sym same ∙ deep)))
-    c.from_residual-in_err-ends-in-Jump.ensures.1
-
-pub turn_exits-returns-in_err-ends-in-Goto-clause-too_deep : goal.turn_exits-returns-in_err-ends-in-Goto-clause-too_deep
-turn_exits-returns-in_err-ends-in-Goto-clause-too_deep t c = passed_on c.from_residual-in_err-ends-in-Goto.result _ (λ e same deep.
-    goto_nests (table_program c.args.table.setting.plant.now c.args.table.number c.args.table.setting.names.now) c.args.rule c.args.levels
-    c.in-Goto.chain c.args.turn.outcome (sym c.in-Goto.is ∙ c.course_of.ensures) (c.in_err-ends-in-Goto.ensures.too_deep (sym same ∙ deep)))
-    c.from_residual-in_err-ends-in-Goto.ensures.1
+pub turn_exits-returns-in_err-ends-in-Through-clause-too_deep : goal.turn_exits-returns-in_err-ends-in-Through-clause-too_deep
+turn_exits-returns-in_err-ends-in-Through-clause-too_deep t c = passed_on c.from_residual-in_err-ends-in-Through.result _ (λ e same deep.
+    call_nests (table_program c.args.table.setting.plant.now c.args.table.number c.args.table.setting.names.now) c.args.levels c.in-Through.chain
+    c.in-Through.is_jump c.args.turn.outcome (facts_of c.args.table.interfaces.now c.args.turn.outcome.written (λ n. false))
+    (record { rule = c.args.rule; exit = c.rule_exit.result; by_verdict = c.rule_exit.ensures; is = sym c.in-Through.is ∙ c.course_of.ensures })
+    (c.in_err-ends-in-Through.ensures.too_deep (sym same ∙ deep))) c.from_residual-in_err-ends-in-Through.ensures.1
 
 -- ---- a chain
 

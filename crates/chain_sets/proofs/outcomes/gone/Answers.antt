@@ -1,9 +1,0 @@
-use Rattle.chain_sets.specs.declared.outcomes.Exit.TheVariants.{Ends}
-use Rattle.chain_sets.specs.steps.Merging.{with_outcome}
-use Rattle.chain_sets.proofs.Exits.{any_chain_end, mapped_more}
-use Rattle.chain_sets.proofs.outcomes.gone.Goals as goal
-
-pub loop-end-preserved : goal.loop-end-preserved
-loop-end-preserved c =
-    mapped_more (with_outcome Ends) c.args.ends.now c.loop-end.end-index any_chain_end c.loop-end.exits.items c.push.new.self.items c.loop-end-test.true
-    c.loop-end.invariant c.in_ok-push.ensures.items
