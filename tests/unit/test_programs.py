@@ -26,5 +26,6 @@ class Lists(FilesCase):
 
     def test_other_failures(self) -> None:
         """A test that is refused or aborts keeps the status of the tests and what they tell."""
-        for told in ("panicked", "the test failed: its result gives status", "the test failed: its result gives status 7."):
+        ended = "the test failed: its result gives status"
+        for told in ("panicked", ended, f"{ended} 7."):
             self.assertEqual(self.called(f"echo '{told}' >&2", "exit 101"), Called(101, "", f"{told}\n"))
