@@ -109,7 +109,9 @@ impl Replay {
             → sent.new.failures ≡ one_failure sent.old.failures }
         ensures memory { IsErrOf result SinkError.Memory → sent.new ≡ sent.old }
     {
-        let numbers = Report::new(alloc, engine.rules(), trace)?;
+        let Ok(numbers) = Report::new(alloc, engine.rules(), trace) else {
+            return Err(SinkError::Memory);
+        };
         let sink = Sink::open(alloc, sent)?;
         Ok(Replay {
             engine,

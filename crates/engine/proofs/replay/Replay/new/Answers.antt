@@ -9,21 +9,19 @@ use Rattle.engine.proofs.replay.Replay.new.Goals as goal
 no_device : {T : Type 0} {result : Result T SinkError} → result ≡ Err sinks.Memory → result ≡ Err sinks.Device → ⊥
 no_device memory device = cc
 
-pub returns-in_err-numbers : goal.returns-in_err-numbers
-returns-in_err-numbers g c =
-    let q = err_from_is_err_and c.from_residual.result c.from_residual.ensures.1 in
-    rw (q.1, q.2) (record {
-      same = tt;
-      begun = tt;
-      part = part_none _ sll2_header;
-      no_failure = tt;
-      device = λ is. absurd (no_device refl is);
-      memory = λ is. refl;
-    })
+pub returns-in_default : goal.returns-in_default
+returns-in_default g c = record {
+  same = tt;
+  begun = tt;
+  part = part_none _ sll2_header;
+  no_failure = tt;
+  device = λ is. absurd (no_device refl is);
+  memory = λ is. refl;
+}
 
 pub returns-in_err-sink : goal.returns-in_err-sink
 returns-in_err-sink g c =
-    let q = err_from_is_err_and c.from_residual-in_err-sink.result c.from_residual-in_err-sink.ensures.1 in
+    let q = err_from_is_err_and c.from_residual.result c.from_residual.ensures.1 in
     rw (q.1, q.2) (record {
       same = tt;
       begun = tt;
@@ -35,7 +33,7 @@ returns-in_err-sink g c =
 
 pub returns : goal.returns
 returns g c = record {
-  same = (refl, refl, c.in_ok-numbers.ensures.fresh.records, c.in_ok-numbers.ensures.empty);
+  same = (refl, refl, c.in-Ok.ensures.fresh.records, c.in-Ok.ensures.empty);
   begun = λ report. record {
     same = refl;
     represents = c.requires.represents;
@@ -43,7 +41,7 @@ returns g c = record {
         (g.W.Write.contents c.open.new.writer.inner) c.in_ok-sink.sink.buffered text)
         (sym (append-nil sll2_header)) c.in_ok-sink.ensures.ok;
     lines = [];
-    reports = rw c.rules.ensures at c.in_ok-numbers.ensures.fresh;
+    reports = rw c.rules.ensures at c.in-Ok.ensures.fresh;
     appends_report = Appends-nil report;
     not_ahead = inl (Appends-nil report);
   };
