@@ -2,8 +2,8 @@
 ghost use Rattle.progress.specs.Outputs.{UsesDevices, device, capture_bytes};
 
 use crate::progress_reader::{Progress, ProgressReader};
-use engine::RunFault;
 use devices::Counted;
+use engine::RunFault;
 use std::hash::RandomState;
 use std::io::{Read, Write};
 use std::rt::Clock;
