@@ -53,13 +53,15 @@ class Program:
 
 
 class ListRuns(Program):
-    """The tests of crates/crate_tests, by the one that runs what it is called with over the list tracker. A test that
-    ends with a status tells it in a line of its own, behind those of the run."""
+    """The tests of crates/crate_tests, by the one that runs what it is called with over the list tracker. Behind what
+    that prints a test tells how it ended: that it passed, or with which status it didn't."""
 
     TEST = "list_runs::runs_as_nftrun"
+    PASSED = "\ntest result: ok\n"
     ENDED = re.compile(r"the test failed: its result gives status ([0-9]+)\n\Z")
 
     def call(self, words: Sequence[str], setting: Mapping[str, str] | None = None) -> Called:
         called = super().call([self.TEST, *words], setting)
+        called = replace(called, printed=called.printed.removesuffix(self.PASSED))
         ended = self.ENDED.search(called.errors)
         return replace(called, status=int(ended[1]), errors=called.errors[:ended.start()]) if ended else called

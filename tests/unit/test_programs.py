@@ -22,7 +22,8 @@ class Lists(FilesCase):
         told = "echo nftrun: torn >&2", 'echo "the test failed: its result gives status 7" >&2', "exit 101"
         self.assertEqual(self.called('echo "$*"', *told),
                          Called(7, "list_runs::runs_as_nftrun run rules\n", "nftrun: torn\n"))
-        self.assertEqual(self.called("exit 0"), Called(0, "", ""))
+        self.assertEqual(self.called("echo passed 1", "echo", "echo test result: ok"), Called(0, "passed 1\n", ""))
+        self.assertEqual(self.called("echo test result: ok"), Called(0, "test result: ok\n", ""))
 
     def test_other_failures(self) -> None:
         """A test that is refused or aborts keeps the status of the tests and what they tell."""
