@@ -1,18 +1,20 @@
 //! Rulesets that passed all checks.
-ghost use Rattle.std.specs.Prelude.{◌≡◌, ◌<◌, ◌≤◌, ℕ, List, [], IfOk, IfErr, get_or, slice_get, slice_index};
+ghost use Rattle.std.specs.Prelude.{◌≡◌, ◌<◌, ◌≤◌, ℕ, List, [], None, IfOk, IfErr, IfSome, get_or, map, slice_get, slice_index};
 ghost use Rattle.nft_tree.specs.Tree.{ChainTree, HeadTree, TableTree};
 ghost use Rattle.nft_tree.specs.TreeViews.{tables_of};
 ghost use Rattle.nft_tree.specs.TableItems.{chains_of};
 ghost use Rattle.rule_paths.specs.Paths.{MAX_COST, MAX_JUMPS};
-ghost use Rattle.rule_paths.specs.Findings.{AreChainCosts, numbers_at};
+ghost use Rattle.rule_names.specs.Indexed.{names_in};
+ghost use Rattle.rule_paths.specs.Findings.{AreChainCosts, AreFindings, numbers_at};
 ghost use Rattle.rule_check.specs.Checked.{AreRulesetCosts, AreRulesetDepths, CheckedTree, IsCheckRefusal, ruleset_sum};
-ghost use Rattle.rule_check.specs.WellFormed.{WellFormed};
+ghost use Rattle.rule_check.specs.WellFormed.{LeastFault, WellFormed};
 
 use crate::analysis::analyze;
 use crate::fault::{CheckError, CheckFault};
 use box_file::Plant;
 use nft_tree::Ruleset;
 use rule_names::{RulesetNames, TableNames};
+use rule_paths::Findings;
 use std::alloc::{AllocError, Global};
 use std::marker::Model;
 
@@ -62,16 +64,52 @@ pub fn check(alloc: Global, tree: Ruleset, plant: Plant) -> Result<Checked, Chec
     ensures fine { IfOk result (λ checked. WellFormed (tables_of tree) plant) }
     ensures refused { IfErr result (λ error. IsCheckRefusal (tables_of tree) plant error) }
 {
-    let Some(names) = RulesetNames::of(alloc, &tree)? else {
-        return Err(CheckError::Refused(CheckFault::DuplicateName));
-    };
-    let found = analyze(alloc, &names.tables(alloc, &tree)?, &tree, &plant)?;
+    let (names, found) = judge(alloc, &tree, &plant)?;
     Ok(Checked {
         tree,
         plant,
         names,
         costs: found.costs,
     })
+}
+
+/// The names of a well-formed ruleset and the analysis of its jumps.
+fn judge(
+    alloc: Global,
+    tree: &Ruleset,
+    plant: &Plant,
+) -> Result<(RulesetNames, Findings), CheckError>
+    ensures names { IfOk result (λ x. x.0 ≡ map names_in (tables_of tree.now)) }
+    ensures found { IfOk result (λ x. AreFindings (tables_of tree.now) x.1) }
+    ensures fine { IfOk result (λ _. WellFormed (tables_of tree.now) plant.now) }
+    ensures refused { IfErr result (λ error. IsCheckRefusal (tables_of tree.now) plant.now error) }
+{
+    let Some(names) = RulesetNames::of(alloc, tree)? else {
+        return Err(CheckError::Refused(CheckFault::DuplicateName));
+    };
+    let found = analyze(alloc, &names.tables(alloc, tree)?, tree, plant)?;
+    Ok((names, found))
+}
+
+/// The fault with the lowest number that a ruleset has on a box; `None` if it is well formed.
+///
+/// # Errors
+///
+/// If an allocation fails.
+pub fn least_fault(
+    alloc: Global,
+    tree: &Ruleset,
+    plant: &Plant,
+) -> Result<Option<CheckFault>, AllocError>
+    ensures fine { IfOk result (λ o. o ≡ None → WellFormed (tables_of tree.now) plant.now) }
+    ensures refused { IfOk result (λ o.
+        IfSome o (λ fault. LeastFault fault (tables_of tree.now) plant.now)) }
+{
+    match judge(alloc, tree, plant) {
+        Ok(_) => Ok(None),
+        Err(CheckError::Refused(fault)) => Ok(Some(fault)),
+        Err(CheckError::Memory) => Err(AllocError),
+    }
 }
 
 impl Checked {

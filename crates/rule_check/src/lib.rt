@@ -9,7 +9,7 @@ mod laws;
 mod limits;
 mod terminal_statements;
 
-pub use checked::{Checked, check};
+pub use checked::{Checked, check, least_fault};
 pub use fault::{CheckError, CheckFault};
 pub use laws::{least_fault_unique, well_formed_or_least_fault};
 pub use limits::{chain_count, rule_count, too_large};
