@@ -1,3 +1,4 @@
 pub mod Numbers
 pub mod Lexemes
 pub mod Tokenizations
+pub mod Standing

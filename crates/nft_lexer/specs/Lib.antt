@@ -3,3 +3,4 @@ pub mod TokenViews
 pub mod Lexing
 pub mod steps
 pub mod Codes
+pub mod Places

@@ -10,5 +10,5 @@ mod token;
 
 pub use fault::{LexError, LexFault};
 pub use laws::{one_fault, one_tokenization, some_tokenization};
-pub use lexing::lex;
+pub use lexing::{fault_start, lex};
 pub use token::{Punctuator, Token, TokenKind};

@@ -63,10 +63,12 @@ pub enum TokenKind {
     String,
 }
 
-/// A token: its slice of the text, and its kind.
+/// A token: its slice of the text, where that begins, and its kind.
 #[derive(Clone, Copy)]
 pub struct Token<'t> {
     pub text: &'t [u8],
+    /// How many bytes of the text come before it.
+    pub start: usize,
     pub kind: TokenKind,
 }
 
