@@ -1,0 +1,4 @@
+pub mod Parts
+pub mod ReadParts
+pub mod Nodes
+pub mod steps

@@ -1,0 +1,2 @@
+-- Definitions for private contracts; no public contract cites them.
+pub mod Spots
