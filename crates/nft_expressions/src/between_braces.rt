@@ -30,7 +30,11 @@ fn inside<'t>(tokens: &[Token<'t>], at: usize) -> Option<(Token<'t>, usize)>
 
 /// The tokens from `at` up to the first closing brace, without newlines, and the position of that
 /// brace, or the end if there is none.
-fn enclosed<'t>(
+///
+/// # Errors
+///
+/// `Memory` if an allocation was refused.
+pub fn enclosed<'t>(
     alloc: Global,
     tokens: &[Token<'t>],
     at: usize,

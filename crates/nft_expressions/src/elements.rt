@@ -55,7 +55,7 @@ fn key_after(
 }
 
 /// elem = key ["comment" STRING]
-pub(crate) struct SetElement;
+pub struct SetElement;
 
 #[tactic(auto, unfolding(crate::specs::steps::LookedThrough::elements))]
 impl Production for SetElement {

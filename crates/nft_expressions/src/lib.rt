@@ -14,7 +14,10 @@ mod values;
 mod verdicts;
 
 pub use any_selector::{anysel, selectors};
+pub use between_braces::enclosed;
+pub use elements::SetElement;
 pub use lists::{elems, pairs};
+pub use maps::MapPair;
 pub use references::{map_ref, set_ref};
 pub use type_words::type_has_word;
 pub use values::{comment, range};

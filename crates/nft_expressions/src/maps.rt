@@ -68,7 +68,7 @@ fn map_key(
 }
 
 /// pair = one ["comment" STRING] ":" (verdict | value)
-pub(crate) struct MapPair;
+pub struct MapPair;
 
 impl Production for MapPair {
     type Item = Pair;

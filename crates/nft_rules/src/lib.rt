@@ -19,3 +19,4 @@ mod statements;
 pub use nft_expressions::{anysel, elems, pairs};
 pub use nft_tree::Memory;
 pub use rules::rule;
+pub use statements::AnyStatement;

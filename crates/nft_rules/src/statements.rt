@@ -46,7 +46,7 @@ fn selector_statement(
 }
 
 /// stmt = counter | log | notrack | verdict | nat | setmark | vmap | match
-pub(crate) struct AnyStatement;
+pub struct AnyStatement;
 
 impl Production for AnyStatement {
     type Item = Stmt;

@@ -1,22 +1,24 @@
 //! Chains and their rules (nft(8), "Chains").
-ghost use Rattle.std.specs.Prelude.{IfOk};
+ghost use Rattle.std.specs.Prelude.{IfOk, map, option_map};
 ghost use Rattle.nft_tree.specs.Tree.{RuleTree};
-ghost use Rattle.nft_tree.specs.TreeViews.{rule_tree, chain_tree};
+ghost use Rattle.nft_tree.specs.TreeViews.{chain_tree, head_tree, rule_tree};
 ghost use Rattle.token_reader.specs.Readers.{IsRead};
 ghost use Rattle.nft_rules.specs.Rules.{ended_rule};
 ghost use Rattle.nft_rulesets.specs.Chains.{chain};
+ghost use Rattle.nft_rulesets.specs.steps.Starts.{chain_start};
 
 use crate::heads::head;
 use crate::notes::Note;
 use nft_lexer::{Punctuator, Token};
 use nft_rules::rule;
-use nft_tree::{Chain, Memory, Rule};
+use nft_tree::{Chain, Head, Memory, Rule};
 use std::alloc::Global;
 use token_reader::{
     Production, after_punctuator, after_word, found, lines, repeated, skip_ends, word,
 };
 
-struct EndedRule;
+/// A rule, with what ends it after it.
+pub struct EndedRule;
 
 impl Production for EndedRule {
     type Item = Rule;
@@ -32,14 +34,37 @@ impl Production for EndedRule {
     }
 }
 
-/// "chain" NAME "{" {end} {note} [head {note}] [rule {end {end} rule} {end}] "}"
-#[tactic(auto, unfolding(crate::specs::Chains::chain, crate::specs::Chains::rules))]
-pub(crate) fn chain(
+/// What stands before the rules of a chain.
+#[derive(Drop)]
+pub struct ChainStart<'t> {
+    /// The chain's name.
+    pub name: &'t [u8],
+    /// The comments before the hook specification.
+    pub notes: Vec<Vec<u8>>,
+    /// The hook specification, with the comments after it.
+    pub head: Option<Head>,
+}
+
+/// "chain" NAME "{" {end} {note} [head {note}]
+///
+/// What it says, and the position after it; `None` if no chain begins at `at`.
+///
+/// # Errors
+///
+/// `Memory` if an allocation was refused.
+#[tactic(auto, unfolding(crate::specs::steps::Starts::chain_start))]
+pub fn chain_start<'t>(
     alloc: Global,
-    tokens: &[Token],
+    tokens: &[Token<'t>],
     at: usize,
-) -> Result<Option<(Chain, usize)>, Memory>
-    ensures { IfOk result (IsRead chain_tree chain.read tokens.now at) }
+) -> Result<Option<(ChainStart<'t>, usize)>, Memory>
+    ensures { IfOk result (IsRead (λ x. (
+      x.name.now,
+      (
+        map (λ n. n.items) x.notes.items,
+        option_map head_tree x.head,
+      ),
+    )) chain_start.read tokens.now at) }
 {
     let at = found!(after_word(tokens, at, b"chain"));
     let (name, at) = found!(word(tokens, at));
@@ -50,16 +75,28 @@ pub(crate) fn chain(
         Some((head, after)) => (Some(head), after),
         None => (None, at),
     };
+    Ok(Some((ChainStart { name, notes, head }, at)))
+}
+
+/// "chain" NAME "{" {end} {note} [head {note}] [rule {end {end} rule} {end}] "}"
+#[tactic(auto, unfolding(crate::specs::Chains::chain, crate::specs::Chains::rules, crate::specs::steps::Starts::chain_start))]
+pub(crate) fn chain(
+    alloc: Global,
+    tokens: &[Token],
+    at: usize,
+) -> Result<Option<(Chain, usize)>, Memory>
+    ensures { IfOk result (IsRead chain_tree chain.read tokens.now at) }
+{
+    let (start, at) = found!(chain_start(alloc, tokens, at)?);
     let (rules, at) = match lines::<EndedRule>(alloc, tokens, at)? {
         Some(found) => found,
         None => (Vec::new(alloc), at),
     };
     let at = found!(after_punctuator(tokens, at, Punctuator::CloseBrace));
-    let name = Vec::from_slice(alloc, name)?;
     let chain = Chain {
-        name,
-        notes,
-        head,
+        name: Vec::from_slice(alloc, start.name)?,
+        notes: start.notes,
+        head: start.head,
         rules,
     };
     Ok(Some((chain, at)))

@@ -10,7 +10,8 @@ use nft_tree::{Element, Memory, Pair};
 use std::alloc::Global;
 use token_reader::Production;
 
-pub(crate) struct Elements;
+/// The elements of a set, up to the closing brace.
+pub struct Elements;
 
 impl Production for Elements {
     type Item = Vec<Element>;
@@ -30,7 +31,8 @@ impl Production for Elements {
     }
 }
 
-pub(crate) struct Pairs;
+/// The pairs of a map, up to the closing brace.
+pub struct Pairs;
 
 impl Production for Pairs {
     type Item = Vec<Pair>;

@@ -1,12 +1,13 @@
 //! The fields of sets and maps, in any order (nft(8), "Sets", "Maps").
-ghost use Rattle.std.specs.Prelude.{◌≡◌, Some, None, IfOk, codes, if◌then◌else◌, map, option_map};
+ghost use Rattle.std.specs.Prelude.{◌≡◌, IfSome, Some, None, IfOk, codes, if◌then◌else◌, map, option_map};
 ghost use Rattle.std.specs.Option.{is_none};
 ghost use Rattle.token_reader.specs.Grammar.{keyword, punctuation, ◌▹◌, ◌◃◌};
-ghost use Rattle.token_reader.specs.Readers.{IsRead};
+ghost use Rattle.token_reader.specs.Readers.{IsAfter, IsRead, remaining};
 ghost use Rattle.nft_lexer.specs.declared.token.Punctuator.TheVariants.{CloseBrace, Equals, OpenBrace};
 ghost use Rattle.nft_rulesets.specs.Sets as trees;
 ghost use Rattle.nft_rulesets.specs.Sets.{any_field, block, collect_fields, set_flags, with_field};
 ghost use Rattle.nft_rulesets.specs.steps.Reading.{read_by};
+ghost use Rattle.nft_rulesets.specs.steps.Starts.{block_start, elements_start};
 ghost use Rattle.nft_rulesets.specs.steps.Views.{field_tree, fields_tree};
 
 use crate::flags::Flag;
@@ -22,7 +23,7 @@ use token_reader::{
 
 /// A field of a set or a map.
 #[derive(Drop)]
-pub(crate) enum Field<K, E> {
+pub enum Field<K, E> {
     Key(K),
     Flags(Vec<SetFlag>),
     Size(u64),
@@ -81,7 +82,22 @@ fn set_flags(
     separated::<Comma, Flag>(alloc, tokens, at, 1)
 }
 
+/// What stands before the elements of a set or a map: "elements" "=" "{"
+///
+/// The position after it; `None` if the field at `at` is another one.
+#[tactic(auto, unfolding(crate::specs::steps::Starts::elements_start))]
+pub fn elements_start(tokens: &[Token], at: usize) -> Option<usize>
+    ensures read { option_map (λ end. (tt {0}, remaining tokens.now end)) result
+        ≡ elements_start.read (remaining tokens.now at) }
+    ensures within { IfSome result (IsAfter tokens.now at) }
+{
+    let at = after_word(tokens, at, b"elements")?;
+    let at = after_punctuator(tokens, at, Punctuator::Equals)?;
+    after_punctuator(tokens, at, Punctuator::OpenBrace)
+}
+
 /// "elements" "=" "{" elements "}"
+#[tactic(auto, unfolding(crate::specs::steps::Starts::elements_start))]
 fn elements_field<E: Production>(
     alloc: Global,
     tokens: &[Token],
@@ -91,9 +107,7 @@ fn elements_field<E: Production>(
         (keyword (codes "elements") ▹ punctuation Equals ▹ punctuation OpenBrace ▹ read_by E.read_at
         ◃ punctuation CloseBrace).read tokens.now at) }
 {
-    let at = found!(after_word(tokens, at, b"elements"));
-    let at = found!(after_punctuator(tokens, at, Punctuator::Equals));
-    let at = found!(after_punctuator(tokens, at, Punctuator::OpenBrace));
+    let at = found!(elements_start(tokens, at));
     let (elements, at) = found!(E::read(alloc, tokens, at)?);
     let at = found!(after_punctuator(tokens, at, Punctuator::CloseBrace));
     Ok(Some((elements, at)))
@@ -101,7 +115,7 @@ fn elements_field<E: Production>(
 
 /// key | "flags" sflag {"," sflag} | "size" NUM | "auto-merge" | "comment" STRING
 /// | "elements" "=" "{" elements "}"
-struct AnyField<K, E> {
+pub struct AnyField<K, E> {
     parts: PhantomData<(K, E)>,
 }
 
@@ -164,8 +178,21 @@ fn collect_fields<K: Production, E: Production>(
     Some(all)
 }
 
+/// What stands before the fields of a set or a map: kind NAME "{" {end}
+///
+/// Its name, and the position after it; `None` if none of this kind begins at `at`.
+#[tactic(auto, unfolding(crate::specs::steps::Starts::block_start))]
+pub fn block_start<'t>(tokens: &[Token<'t>], at: usize, kind: &[u8]) -> Option<(&'t [u8], usize)>
+    ensures { IsRead (λ x. x.now) (block_start kind.now).read tokens.now at result }
+{
+    let at = after_word(tokens, at, kind)?;
+    let (name, at) = word(tokens, at)?;
+    let at = after_punctuator(tokens, at, Punctuator::OpenBrace)?;
+    Some((name, skip_ends(tokens, at)))
+}
+
 /// kind NAME "{" {end} field {end {end} field} {end} "}"
-#[tactic(auto, unfolding(crate::specs::Sets::block))]
+#[tactic(auto, unfolding(crate::specs::Sets::block, crate::specs::steps::Starts::block_start))]
 pub(crate) fn block<K: Production, E: Production>(
     alloc: Global,
     tokens: &[Token],
@@ -175,10 +202,7 @@ pub(crate) fn block<K: Production, E: Production>(
     ensures { IfOk result (IsRead (λ x. (x.0.items, fields_tree K.tree E.tree x.1))
         (keyword kind.now ▹ block (read_by K.read_at) (read_by E.read_at)).read tokens.now at) }
 {
-    let at = found!(after_word(tokens, at, kind));
-    let (name, at) = found!(word(tokens, at));
-    let at = found!(after_punctuator(tokens, at, Punctuator::OpenBrace));
-    let at = skip_ends(tokens, at);
+    let (name, at) = found!(block_start(tokens, at, kind));
     let (fields, at) = found!(lines::<AnyField<K, E>>(alloc, tokens, at)?);
     let at = found!(after_punctuator(tokens, at, Punctuator::CloseBrace));
     let name = Vec::from_slice(alloc, name)?;

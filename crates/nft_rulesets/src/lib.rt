@@ -13,5 +13,9 @@ mod tables;
 mod types;
 mod unsupported_words;
 
-pub use tables::ruleset;
+pub use chains::{ChainStart, EndedRule, chain_start};
+pub use element_lists::{Elements, Pairs};
+pub use fields::{AnyField, Field, block_start, elements_start};
+pub use tables::{AnyTable, TableItem, ruleset, ruleset_start, table_start};
+pub use types::{MapTypes, SetTypes};
 pub use unsupported_words::has_unsupported;

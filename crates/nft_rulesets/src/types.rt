@@ -36,7 +36,7 @@ impl Production for TypeName {
 }
 
 /// "type" TYPE {"." TYPE} | "typeof" keys
-pub(crate) struct SetTypes;
+pub struct SetTypes;
 
 impl Production for SetTypes {
     type Item = SetType;
@@ -88,7 +88,7 @@ fn data_selector(tokens: &[Token], at: usize) -> Option<(SelectorOrVerdict, usiz
 }
 
 /// "type" TYPE ":" (TYPE | "verdict") | "typeof" anysel ":" (anysel | "verdict")
-pub(crate) struct MapTypes;
+pub struct MapTypes;
 
 impl Production for MapTypes {
     type Item = MapType;

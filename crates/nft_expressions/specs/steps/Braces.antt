@@ -52,7 +52,7 @@ over t kept ts to one u = record {
   same = one u.inner ∙ ap (λ (r : List Terminal). t ∷ r) u.same;
 }
 
-enclosed_found : (ts : List Terminal) → IfSome (enclosed_at ts) (λ x. UpTo x.0 ts x.1)
+pub enclosed_found : (ts : List Terminal) → IfSome (enclosed_at ts) (λ x. UpTo x.0 ts x.1)
 unfolding enclosed_at
 enclosed_found [] = tt
 enclosed_found (terminals.newline ∷ ts) =

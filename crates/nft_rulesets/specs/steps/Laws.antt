@@ -146,7 +146,7 @@ lawful_table_name = record {
   front = λ x from to s. inl (table_name_front s.0 from to s.2);
 }
 
-lawful_table : Lawful table
+pub lawful_table : Lawful table
 unfolding table table_name item comment chain rules named_set named_map block
 lawful_table =
     lawful_made _ (lawful_after (lawful_keyword _) (lawful_then lawful_table_name (

@@ -86,6 +86,22 @@ lawful_block lk le some apart behind ahead ended begun closed =
     (lawful_after lawful_ends (lawful_before (lawful_lines field refl ahead ended) (lawful_punctuation _)
     closed) begun) refl)) refl
 
+pub lawful_set_field : Lawful (any_field set_type elements)
+unfolding any_field other_field set_flags set_type value_types value_type selector selectors elements
+lawful_set_field = lawful_either (lawful_made sets.key lawful_set_type)
+    (lawful_other_field lawful_elements refl) refl refl
+
+pub lawful_map_field : Lawful (any_field map_type pairs)
+unfolding any_field other_field set_flags map_type value_type data_type data_selector selector pairs
+lawful_map_field = lawful_either (lawful_made sets.key lawful_map_type)
+    (lawful_other_field lawful_pairs refl) refl refl
+
+-- The parser of a field depends only on the parsers of its key and its elements.
+pub same_field : {K E : Type 0} (k : Grammar K) (e : Grammar E) (ts : List Terminal)
+    → (any_field (read_by k.read) (read_by e.read)).read ts ≡ (any_field k e).read ts
+unfolding any_field other_field
+same_field k e ts = refl
+
 -- The parser of a block depends only on the parsers of its key and its elements.
 pub same_block : (w : List ℕ) {K E : Type 0} (k : Grammar K) (e : Grammar E) (ts : List Terminal)
     → (keyword w ▹ block (read_by k.read) (read_by e.read)).read ts ≡ (keyword w ▹ block k e).read ts
