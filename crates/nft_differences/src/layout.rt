@@ -4,7 +4,7 @@ use crate::names::is_reserved;
 use crate::outline::{Declaration, Nesting, Outline, PartKind};
 use crate::tokens::Tokens;
 use crate::warning::{self, Warning};
-use fault_places::{TokenKind, byte_at, continues_word};
+use nft_lexer::TokenKind;
 
 /// The most bytes of a comment, and of a name.
 const MOST_OF_COMMENT: usize = 128;
@@ -189,12 +189,12 @@ fn tightness(tokens: &Tokens<'_>, index: usize, next: usize) -> Option<Warning> 
     if !tokens.is_tight(next) {
         return None;
     }
-    let first = byte_at(tokens.text, tokens.offset(next));
+    let first = tokens.bytes(next).first().copied().unwrap_or(b'\n');
     if tokens.is(index, b".") && continues_word(first) {
         return Some(warning::TIGHT_DOT);
     }
     match tokens.kind(next) {
-        TokenKind::Number if tokens.is(index, b":") && is_class(tokens, index) => {
+        TokenKind::Number(_) if tokens.is(index, b":") && is_class(tokens, index) => {
             Some(warning::TIGHT_COLON)
         }
         TokenKind::Word if is_unit(first) && is_decimal(tokens.bytes(index)) => {
@@ -244,6 +244,11 @@ fn is_decimal(bytes: &[u8]) -> bool {
         }
     }
     !bytes.is_empty()
+}
+
+/// Whether a byte continues a word for nft.
+fn continues_word(byte: u8) -> bool {
+    byte.is_ascii_alphanumeric() || matches!(byte, b'_' | b'-' | b'.' | b'/')
 }
 
 /// Whether nft takes a letter behind a number for a unit of time.

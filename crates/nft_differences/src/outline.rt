@@ -1,6 +1,6 @@
 //! The parts of a ruleset's text, in the order of its tree.
 use crate::tokens::Tokens;
-use fault_places::TokenKind;
+use nft_lexer::TokenKind;
 
 /// A part of a text by its tokens, `end` exclusive.
 #[derive(Clone, Copy)]

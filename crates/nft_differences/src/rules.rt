@@ -240,7 +240,7 @@ impl Walk<'_, '_> {
         place: usize,
         findings: &mut Findings<'_>,
     ) {
-        let has_operator = self.tokens.is(self.at, b"=") || self.tokens.is(self.at, b"!");
+        let has_operator = self.tokens.is(self.at, b"==") || self.tokens.is(self.at, b"!=");
         let is_single = elements.len() == 1 && !has_operator;
         match selector {
             Selector::CtStatus if !is_single => {
@@ -317,7 +317,7 @@ impl Walk<'_, '_> {
             match self.tokens.bytes(index) {
                 b"(" => is_open = true,
                 b")" => is_open = false,
-                b"=" | b"!" => is_mask = false,
+                b"==" | b"!=" => is_mask = false,
                 b"," if is_open || is_mask => {
                     findings.add(self.tokens, index, warning::COMMA_IN_MASK);
                     break;

@@ -1,67 +1,42 @@
-//! The tokens of a ruleset's text with their places, newlines among them, as nft(8) reads it.
-use fault_places::{Span, Token, TokenKind, bytes_of, token_at};
+//! The tokens of a ruleset's text, newlines among them, as nft(8) reads it.
+use nft_lexer::{LexError, Token, TokenKind, lex};
 use std::alloc::{AllocError, Global};
 
 /// A text with its tokens.
 #[derive(Drop)]
 pub(crate) struct Tokens<'a> {
     pub text: &'a [u8],
-    all: Vec<Token>,
+    all: Vec<Token<'a>>,
 }
 
 impl<'a> Tokens<'a> {
-    /// The tokens of a text. A line that has only a comment has no newline.
+    /// The tokens of a text that can be read. A line that has only a comment has no newline.
     pub(crate) fn read(alloc: Global, text: &'a [u8]) -> Result<Tokens<'a>, AllocError> {
-        let mut tokens = Tokens {
-            text,
-            all: Vec::new(alloc),
+        let mut all = match lex(alloc, text) {
+            Ok(tokens) => tokens,
+            Err(LexError::Refused(_)) => Vec::new(alloc),
+            Err(LexError::Memory) => return Err(AllocError),
         };
-        tokens.read_all()?;
-        Ok(tokens)
-    }
-
-    fn read_all(&mut self) -> Result<(), AllocError> {
-        let mut at = 0usize;
-        for _ in 0..self.text.len() {
-            let Some(token) = token_at(self.text, at) else {
-                break;
-            };
-            at = token.end;
-            if !matches!(token.kind, TokenKind::Comment) {
-                self.all.push(token)?;
-            } else if begins_line(self.text, token.start) {
-                at = token.end.saturating_add(1);
-            }
-        }
-        Ok(())
+        all.retain(|token| !ends_comment_line(text, token));
+        Ok(Tokens { text, all })
     }
 
     pub(crate) fn len(&self) -> usize {
         self.all.len()
     }
 
-    pub(crate) fn get(&self, index: usize) -> Option<Token> {
-        self.all.get(index).copied()
-    }
-
     /// The kind of a token; that of a newline at the end.
     pub(crate) fn kind(&self, index: usize) -> TokenKind {
         match self.all.get(index) {
             Some(token) => token.kind,
-            None => TokenKind::Newline,
+            None => TokenKind::NewLine,
         }
     }
 
     /// The bytes of a token; none at the end.
     pub(crate) fn bytes(&self, index: usize) -> &[u8] {
         match self.all.get(index) {
-            Some(token) => bytes_of(
-                self.text,
-                Span {
-                    start: token.start,
-                    end: token.end,
-                },
-            ),
+            Some(token) => token.text,
             None => &[],
         }
     }
@@ -71,7 +46,7 @@ impl<'a> Tokens<'a> {
     }
 
     pub(crate) fn is_newline(&self, index: usize) -> bool {
-        matches!(self.kind(index), TokenKind::Newline)
+        matches!(self.kind(index), TokenKind::NewLine)
     }
 
     /// The first string from a token on; the last token, where there is none before that.
@@ -94,30 +69,27 @@ impl<'a> Tokens<'a> {
 
     /// Whether a token follows the one before it directly, without blanks.
     pub(crate) fn is_tight(&self, index: usize) -> bool {
-        match (self.get(index.saturating_sub(1)), self.get(index)) {
-            (Some(before), Some(token)) => index > 0 && before.end == token.start,
+        match (self.all.get(index.saturating_sub(1)), self.all.get(index)) {
+            (Some(before), Some(token)) => {
+                index > 0 && before.start.saturating_add(before.text.len()) == token.start
+            }
             _ => false,
         }
     }
 }
 
-/// Whether there are only blanks between the line's beginning and an offset.
-fn begins_line(text: &[u8], offset: usize) -> bool {
-    for byte in bytes_of(
-        text,
-        Span {
-            start: 0,
-            end: offset,
-        },
-    )
-    .iter()
-    .rev()
-    {
+/// Whether a token is the newline of a line that has only a comment.
+fn ends_comment_line(text: &[u8], token: &Token<'_>) -> bool {
+    if !matches!(token.kind, TokenKind::NewLine) {
+        return false;
+    }
+    let mut first = b'\n';
+    for byte in text.get(..token.start).unwrap_or(&[]).iter().rev() {
         match byte {
-            b'\n' => return true,
+            b'\n' => break,
             b' ' | b'\t' => {}
-            _ => return false,
+            _ => first = *byte,
         }
     }
-    true
+    first == b'#'
 }
