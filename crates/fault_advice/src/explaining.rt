@@ -1,8 +1,10 @@
 //! Explains a fault: what its code means, where it is, and what to do.
 use crate::place_advice::put_place_advice;
-use fault_location::{Fault, Sources, Subject, text_place};
+use box_file::BoxFault;
+use fault_location::{Fault, Sources, check_place, faulty_line, text_place};
 use fault_places::{enclosing_description, show};
 use nft_parser::TextFault;
+use rule_check::CheckFault;
 use rules_advice::{put_advice_on_box, put_advice_on_rules};
 use std::alloc::{AllocError, Global};
 
@@ -41,23 +43,12 @@ fn put_place(
     sources: Sources<'_>,
     lines: &mut String,
 ) -> Result<(), AllocError> {
-    let Sources {
-        paths,
-        rules,
-        plant,
-    } = sources;
     match fault {
-        Fault::Text(fault) => put_place_in_text(alloc, paths.rules, rules, fault, lines),
-        Fault::Check(fault) => {
-            put_place_of(
-                alloc,
-                Subject::Rules { fault, plant },
-                paths.rules,
-                rules,
-                lines,
-            )
+        Fault::Text(fault) => {
+            put_place_in_text(alloc, sources.paths.rules, sources.rules, fault, lines)
         }
-        Fault::Box(fault) => put_place_of(alloc, Subject::Box(fault), paths.plant, plant, lines),
+        Fault::Check(fault) => put_place_in_rules(alloc, fault, sources, lines),
+        Fault::Box(fault) => put_place_in_box(alloc, fault, sources, lines),
         Fault::Capture(_) => Ok(()),
     }
 }
@@ -77,25 +68,36 @@ fn put_place_in_text(
     put_place_advice(alloc, text, fault, place, lines)
 }
 
-/// Writes where a fault of judged rules or of a box file is, and what to do.
-fn put_place_of(
+/// Writes where a fault of a ruleset as a whole is, and what to do.
+fn put_place_in_rules(
     alloc: Global,
-    subject: Subject<'_>,
-    path: &str,
-    text: &[u8],
+    fault: CheckFault,
+    sources: Sources<'_>,
     lines: &mut String,
 ) -> Result<(), AllocError> {
-    let Some(found) = subject.location(alloc, text)? else {
+    let (text, plant) = (sources.rules, sources.plant);
+    let Some(word) = check_place(alloc, text, plant)? else {
         return Ok(());
     };
-    show(alloc, lines, path, text, found.offset)?;
-    match subject {
-        Subject::Rules { fault, plant } => {
-            put_enclosing(alloc, text, found.offset, lines)?;
-            put_advice_on_rules(alloc, text, plant, fault, found.offset, lines)
-        }
-        Subject::Box(fault) => put_advice_on_box(alloc, text, fault, found.part, lines),
-    }
+    let offset = word.start;
+    show(alloc, lines, sources.paths.rules, text, offset)?;
+    put_enclosing(alloc, text, offset, lines)?;
+    put_advice_on_rules(alloc, text, plant, fault, offset, lines)
+}
+
+/// Writes where a fault of a box file is, and what to do.
+fn put_place_in_box(
+    alloc: Global,
+    fault: BoxFault,
+    sources: Sources<'_>,
+    lines: &mut String,
+) -> Result<(), AllocError> {
+    let text = sources.plant;
+    let Some(line) = faulty_line(alloc, text, fault)? else {
+        return Ok(());
+    };
+    show(alloc, lines, sources.paths.plant, text, line.start)?;
+    put_advice_on_box(alloc, text, fault, line, lines)
 }
 
 /// Writes what is around an offset.

@@ -3,15 +3,18 @@
 //!
 //! Both the locations and the list are heuristics: a part that is removed may have had another
 //! fault, and faults that only follow from a removal aren't listed.
-use crate::faults::{Fault, box_fault, check_fault, line_of, text_fault};
-use crate::rule_search::RuleSearch;
-use crate::subject::{FaultLocation, Subject};
+use crate::box_place::faulty_line;
+use crate::faults::{Fault, box_fault, line_of, read_box, read_rules, text_fault};
+use crate::node_place::shown_word;
+use crate::node_search::NodeSearch;
 use crate::syntax_place::{invalid_token, syntax_place};
 use crate::unreadable::{SEARCHES, UnreadablePart};
 use fault_places::{
-    Depth, Level, Span, Words, braces_match, bytes_of, elements, enclosing_description, holds,
-    mask, part_around, position_at, rest_from, spans, words,
+    Level, Span, Words, braces_match, bytes_of, elements, enclosing_description, holds, mask,
+    part_around, position_at, rest_from, spans, words,
 };
+use fault_spans::node_range;
+use nft_lexer::lex;
 use nft_parser::TextFault;
 use rule_check::CheckFault;
 use std::alloc::{AllocError, Global};
@@ -21,9 +24,9 @@ pub const MOST: usize = 100;
 
 /// A fault that was found.
 #[derive(Clone, Copy)]
-pub struct FoundFault {
-    pub offset: usize,
-    pub fault: Fault,
+struct FoundFault {
+    offset: usize,
+    fault: Fault,
 }
 
 /// The paths of a ruleset and of a box file, as they are reported.
@@ -71,16 +74,6 @@ fn has_within(parts: &[Span], outer: Span) -> bool {
     false
 }
 
-/// Whether this fault of a ruleset as a whole is one of those that were found.
-pub fn has_check(found: &[FoundFault], fault: CheckFault) -> bool {
-    for found in found {
-        if found.fault.is_check(fault) {
-            return true;
-        }
-    }
-    false
-}
-
 /// One line for each fault, in the order of the text: the ruleset's and then the box file's, at
 /// most a hundred of either, with a last line where there may be more.
 ///
@@ -119,10 +112,10 @@ fn put_meaning(lines: &mut String, code: &str) -> Result<(), AllocError> {
 
 /// A text, what is left of it, and the faults of the parts that were removed.
 #[derive(Drop)]
-pub struct FaultList<'a> {
+struct FaultList<'a> {
     text: &'a [u8],
-    pub remaining: Vec<u8>,
-    pub found: Vec<FoundFault>,
+    remaining: Vec<u8>,
+    found: Vec<FoundFault>,
     /// The declarations that were removed: uses of their names aren't faults.
     removed: Vec<Span>,
     /// Whether a fault of what is left has no known place, so nothing more is found.
@@ -379,7 +372,7 @@ impl<'a> FaultList<'a> {
 
     /// Whether a declaration has elements or rules.
     fn has_parts(&self, alloc: Global, part: Span) -> Result<bool, AllocError> {
-        if !elements(alloc, &self.remaining, part, Depth::Set)?.is_empty() {
+        if !elements(alloc, &self.remaining, part)?.is_empty() {
             return Ok(true);
         }
         Ok(has_within(&spans(alloc, &self.remaining, Level::Rules)?, part))
@@ -391,104 +384,70 @@ impl<'a> FaultList<'a> {
             let Some(fault) = box_fault(alloc, &self.remaining)? else {
                 return Ok(());
             };
-            let Some(location) = Subject::Box(fault).location(alloc, &self.remaining)? else {
+            let Some(line) = faulty_line(alloc, &self.remaining, fault)? else {
                 self.is_stuck = true;
                 return Ok(());
             };
-            mask(&mut self.remaining, &[location.part]);
-            self.add(location.offset, Fault::Box(fault))?;
+            mask(&mut self.remaining, &[line]);
+            self.add(line.start, Fault::Box(fault))?;
         }
         Ok(())
     }
 
-    /// Removes the declarations and then the rules that are refused.
+    /// Lists the faults of the ruleset that is left.
     fn judge(&mut self, alloc: Global, plant: &[u8]) -> Result<(), AllocError> {
-        for _ in 0..MOST {
-            if !self.judge_declarations(alloc, plant)? {
-                break;
-            }
-            if !self.is_open() {
-                return Ok(());
-            }
-        }
-        self.judge_rules(alloc, plant)
-    }
-
-    /// Removes what is refused without the rules, and returns whether there was anything.
-    fn judge_declarations(&mut self, alloc: Global, plant: &[u8]) -> Result<bool, AllocError> {
-        let without_rules = self.without_rules(alloc)?;
-        let Some(fault) = check_fault(alloc, &without_rules, plant)? else {
-            return Ok(false);
+        let (Some(tree), Some(plant)) = (
+            read_rules(alloc, &self.remaining)?,
+            read_box(alloc, plant)?,
+        ) else {
+            return Ok(());
         };
-        let subject = Subject::Rules { fault, plant };
-        match subject.location(alloc, &without_rules)? {
-            Some(location) => self.remove_refused(alloc, fault, location)?,
-            None => self.is_stuck = true,
+        let search = NodeSearch::of(alloc, tree, &plant)?;
+        self.is_partial = self.is_partial || search.is_partial;
+        let text = self.remaining.to_vec(alloc)?;
+        let Ok(tokens) = lex(alloc, &text) else {
+            return Ok(());
+        };
+        for found in &search.found {
+            let Some(range) = node_range(alloc, &tokens, found.node)? else {
+                continue;
+            };
+            let its_tokens = tokens.get(range.first..range.end).unwrap_or(&[]);
+            let word = shown_word(found.node, found.fault, found.is_of_data, its_tokens);
+            self.add_refused(alloc, found.fault, word, &search.removed)?;
         }
-        Ok(true)
+        Ok(())
     }
 
-    /// What is left, without its rules.
-    fn without_rules(&self, alloc: Global) -> Result<Vec<u8>, AllocError> {
-        let mut without_rules = self.remaining.to_vec(alloc)?;
-        let rules = spans(alloc, &self.remaining, Level::Rules)?;
-        mask(&mut without_rules, &rules);
-        Ok(without_rules)
-    }
-
-    /// Removes the element, the chain's head, the declaration or the table that has a fault even
-    /// without rules.
-    fn remove_refused(
+    /// Lists the fault of a node at a word, unless it follows from a declaration that was taken out.
+    fn add_refused(
         &mut self,
         alloc: Global,
         fault: CheckFault,
-        location: FaultLocation,
+        word: Span,
+        removed: &[Vec<u8>],
     ) -> Result<(), AllocError> {
-        let FaultLocation {
-            offset,
-            part,
-            outer,
-        } = location;
-        self.add(offset, Fault::Check(fault))?;
-        if part.start != outer.start {
-            return self.remove_element(alloc, part, outer);
-        }
-        if offset > part.start {
-            let head = self.all_but_rules(alloc, part)?;
-            mask(&mut self.remaining, &head);
+        let is_name = matches!(fault, CheckFault::NoSuchChain | CheckFault::NoSuchSet);
+        if is_name && self.is_missing(alloc, word, removed)? {
+            self.is_partial = true;
             return Ok(());
         }
-        self.remove_declaration(alloc, part)
+        self.add(word.start, Fault::Check(fault))
     }
 
-    /// Removes an element, and all that is around its list where that can't be parsed without it.
-    fn remove_element(
-        &mut self,
+    /// Whether a word is the name of a declaration that was taken out.
+    fn is_missing(
+        &self,
         alloc: Global,
-        element: Span,
-        outer: Span,
-    ) -> Result<(), AllocError> {
-        mask(&mut self.remaining, &[element]);
-        if matches!(text_fault(alloc, &self.remaining), Ok(None)) {
-            return Ok(());
+        word: Span,
+        removed: &[Vec<u8>],
+    ) -> Result<bool, AllocError> {
+        let name = bytes_of(self.text, word);
+        if removed.iter().any(|removed| removed.as_slice() == name) {
+            return Ok(true);
         }
-        self.remove_declaration(alloc, outer)
-    }
-
-    /// Removes the rules that are refused.
-    fn judge_rules(&mut self, alloc: Global, plant: &[u8]) -> Result<(), AllocError> {
-        let rules = spans(alloc, &self.remaining, Level::Rules)?;
-        let (found, is_partial) = RuleSearch::new(alloc, self, plant, &rules)?.run()?;
-        self.found.extend_from_slice(&found)?;
-        self.is_partial = self.is_partial || is_partial;
-        Ok(())
-    }
-
-    /// Whether a rule uses the name of a declaration that was removed.
-    pub fn uses_missing(&self, alloc: Global, rule: Span) -> Result<bool, AllocError> {
-        let used = Words::of(alloc, self.text, rule)?;
-        for removed in &self.removed {
-            if used.has(self.name_of(alloc, *removed)?) {
+        for declaration in &self.removed {
+            if self.name_of(alloc, *declaration)?.as_bytes() == name {
                 return Ok(true);
             }
         }

@@ -4,7 +4,7 @@ use nft_lexer::LexFault;
 use nft_parser::{ParseError, TextFault, parse};
 use nft_tree::Ruleset;
 use pcap_io::CaptureFault;
-use rule_check::{CheckError, CheckFault, check};
+use rule_check::CheckFault;
 use std::alloc::{AllocError, Global};
 
 /// A fault of what is read.
@@ -28,14 +28,6 @@ impl Fault {
             Fault::Check(fault) => fault.to_string(alloc),
             Fault::Box(fault) => fault.to_string(alloc),
             Fault::Capture(fault) => fault.to_string(alloc),
-        }
-    }
-
-    /// Whether it is this one of the ruleset as a whole.
-    pub fn is_check(self, fault: CheckFault) -> bool {
-        match self {
-            Fault::Check(own) => is_same(own, fault),
-            _ => false,
         }
     }
 }
@@ -63,25 +55,6 @@ pub fn line_of(fault: LexFault) -> Option<u32> {
     }
 }
 
-/// The fault of a ruleset that can be parsed; none where it is accepted, or has another.
-///
-/// # Errors
-/// `AllocError` for want of memory.
-pub fn check_fault(
-    alloc: Global,
-    text: &[u8],
-    plant: &[u8],
-) -> Result<Option<CheckFault>, AllocError> {
-    let (Some(ruleset), Some(plant)) = (read_rules(alloc, text)?, read_box(alloc, plant)?) else {
-        return Ok(None);
-    };
-    match check(alloc, ruleset, plant) {
-        Ok(_) => Ok(None),
-        Err(CheckError::Refused(fault)) => Ok(Some(fault)),
-        Err(CheckError::Memory) => Err(AllocError),
-    }
-}
-
 /// The fault of a ruleset's text; none where it can be parsed.
 ///
 /// # Errors
@@ -95,7 +68,7 @@ pub fn text_fault(alloc: Global, text: &[u8]) -> Result<Option<TextFault>, Alloc
 }
 
 /// A ruleset, where its text can be parsed.
-fn read_rules(alloc: Global, text: &[u8]) -> Result<Option<Ruleset>, AllocError> {
+pub fn read_rules(alloc: Global, text: &[u8]) -> Result<Option<Ruleset>, AllocError> {
     match parse(alloc, text) {
         Ok(ruleset) => Ok(Some(ruleset)),
         Err(ParseError::Refused(_)) => Ok(None),
@@ -104,7 +77,7 @@ fn read_rules(alloc: Global, text: &[u8]) -> Result<Option<Ruleset>, AllocError>
 }
 
 /// A box, where its file is accepted.
-fn read_box(alloc: Global, text: &[u8]) -> Result<Option<Plant>, AllocError> {
+pub fn read_box(alloc: Global, text: &[u8]) -> Result<Option<Plant>, AllocError> {
     match Plant::read(alloc, text) {
         Ok(plant) => Ok(Some(plant)),
         Err(BoxError::Refused(_)) => Ok(None),

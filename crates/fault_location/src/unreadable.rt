@@ -1,7 +1,7 @@
 //! Finds the parts of a ruleset that can't be parsed by themselves.
 use crate::faults::text_fault;
 use crate::wrapper::Wrapper;
-use fault_places::{Depth, Level, Span, Words, bytes_of, elements, rest_from, spans, words};
+use fault_places::{Level, Span, Words, bytes_of, elements, rest_from, spans, words};
 use nft_parser::TextFault;
 use std::alloc::{AllocError, Global};
 
@@ -187,7 +187,7 @@ fn add_elements(
         level: Level::Sets,
         parsed: Parsed::All,
     };
-    let listed = elements(alloc, text, part, Depth::Set)?;
+    let listed = elements(alloc, text, part)?;
     for &element in &listed {
         if found.len() < most {
             search.add(alloc, text, element, found)?;

@@ -5,19 +5,12 @@ ghost use Rattle.fault_places.specs.Within.{AllWithin};
 use crate::brace_parts::{Quotes, Span, add_within};
 use std::alloc::{AllocError, Global};
 
-/// What a list of elements is part of.
-#[derive(Clone, Copy, PartialEq)]
-pub enum Depth {
-    /// A rule: the list's braces are the outermost ones.
-    Rule,
-    /// A set or a map, whose own braces are around the list.
-    Set,
-}
+/// How deep the elements of a set or a map stand: within its braces and those of their list.
+const DEPTH: usize = 2;
 
 /// The state of a scan at an offset.
 #[derive(Clone, Copy)]
 struct Scan {
-    wanted: usize,
     depth: usize,
     quotes: Quotes,
     element: Option<usize>,
@@ -27,7 +20,7 @@ impl Scan {
     /// Consumes the byte at an offset, and returns the element that ends there, with its comma.
     fn step(&mut self, byte: u8, offset: usize) -> Option<Span> {
         let skipped = self.quotes.skips(byte);
-        let inside = self.depth == self.wanted;
+        let inside = self.depth == DEPTH;
         match byte {
             b' ' | b'\t' | b'\r' | b'\n' | b'#' => return None,
             _ if skipped && byte != b'"' => return None,
@@ -54,25 +47,16 @@ impl Scan {
     }
 }
 
-/// The elements of the lists in a part of a text, in order, each with the comma after it.
+/// The elements of the list in a set or a map, in order, each with the comma after it.
 ///
 /// # Errors
 /// `AllocError` for want of memory.
-pub fn elements(
-    alloc: Global,
-    text: &[u8],
-    part: Span,
-    depth: Depth,
-) -> Result<Vec<Span>, AllocError>
+pub fn elements(alloc: Global, text: &[u8], part: Span) -> Result<Vec<Span>, AllocError>
     // Each part lies within the text.
     ensures { IfOk result (λ parts. AllWithin (length text.entry.now) parts.items) }
 {
     let mut found = Vec::new(alloc);
     let mut scan = Scan {
-        wanted: match depth {
-            Depth::Rule => 1,
-            Depth::Set => 2,
-        },
         depth: 0,
         quotes: Quotes::NONE,
         element: None,

@@ -7,7 +7,7 @@ use crate::part::bytes_of;
 use std::alloc::{AllocError, Global};
 
 #[derive(Clone, Copy)]
-pub enum TokenKind {
+enum TokenKind {
     Newline,
     Word,
     /// A number or an address.
@@ -22,14 +22,14 @@ pub enum TokenKind {
 
 /// A token and its place: byte offsets, `end` exclusive.
 #[derive(Clone, Copy)]
-pub struct Token {
-    pub kind: TokenKind,
-    pub start: usize,
-    pub end: usize,
+struct Token {
+    kind: TokenKind,
+    start: usize,
+    end: usize,
 }
 
 /// A byte of a text; a newline behind its end.
-pub fn byte_at(text: &[u8], offset: usize) -> u8 {
+fn byte_at(text: &[u8], offset: usize) -> u8 {
     match text.get(offset) {
         Some(byte) => *byte,
         None => b'\n',
@@ -37,7 +37,7 @@ pub fn byte_at(text: &[u8], offset: usize) -> u8 {
 }
 
 /// The token at an offset or behind the blanks there, as nft(8) reads it.
-pub fn token_at(text: &[u8], from: usize) -> Option<Token> {
+fn token_at(text: &[u8], from: usize) -> Option<Token> {
     let start = end_of(text, from, Run::Blanks);
     match *text.get(start)? {
         b'\\' => {
@@ -96,7 +96,7 @@ impl Run {
 }
 
 /// Whether a byte continues a word (nft(8), "Lexical conventions").
-pub fn continues_word(byte: u8) -> bool {
+fn continues_word(byte: u8) -> bool {
     byte.is_ascii_alphanumeric() || matches!(byte, b'_' | b'-' | b'.' | b'/')
 }
 

@@ -1,5 +1,5 @@
-use Rattle.std.proofs.Common.{◌<◌, ◌-◌}
-use Rattle.fault_location.proofs.subject.Subject.first.Given as goal
+use Rattle.std.proofs.Common.{◌-◌, ◌<◌}
+use Rattle.fault_location.proofs.box_place.completing_line.Given as goal
 
 abbrev pub invariant-loop-with : goal.invariant-loop-with
 invariant-loop-with l = l.without < l.with
