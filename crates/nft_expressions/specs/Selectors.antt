@@ -7,6 +7,8 @@ use Rattle.nft_tree.specs.declared.selector.Selector.TheVariants as fields
 use Rattle.nft_tree.specs.declared.selector.ValueType.{ValueType}
 use Rattle.nft_tree.specs.declared.selector.ValueType.TheVariants.{InterfaceName, InterfaceIndex}
 use Rattle.nft_tree.specs.ValueTypes.{entry_in, words_of, selector_type}
+use Rattle.nft_expressions.specs.declared.selector_words.Header.{Header}
+use Rattle.nft_expressions.specs.declared.selector_words.Header.TheVariants as headers
 use Rattle.token_reader.specs.Grammar.{Grammar, keyword, punctuation, one_of, separated, ◌▹◌, ◌∣◌}
 
 -- The keywords after `ip`, and so on, each with its selector.
@@ -50,6 +52,23 @@ abbrev pub without_meta : List (List ℕ × Selector)
 without_meta = (codes "iifname", fields.InputName) ∷ (codes "oifname", fields.OutputName)
     ∷ (codes "iif", fields.InputIndex) ∷
     (codes "oif", fields.OutputIndex) ∷ []
+
+-- The words that selectors of two words begin with.
+abbrev pub named_headers : List (List ℕ × Header)
+named_headers =
+    (codes "ip", headers.Ip) ∷ (codes "meta", headers.Meta) ∷ (codes "tcp", headers.Tcp)
+    ∷ (codes "udp", headers.Udp) ∷ (codes "th", headers.Transport) ∷ (codes "icmp", headers.Icmp)
+    ∷ (codes "ct", headers.Ct) ∷ []
+
+-- The keywords after each.
+abbrev pub keywords_after : Header → List (List ℕ × Selector)
+keywords_after headers.Ip = in_ip
+keywords_after headers.Meta = in_meta
+keywords_after headers.Tcp = in_tcp
+keywords_after headers.Udp = in_udp
+keywords_after headers.Transport = in_th
+keywords_after headers.Icmp = in_icmp
+keywords_after headers.Ct = in_ct
 
 -- anysel
 unfoldable pub selector : Grammar Selector

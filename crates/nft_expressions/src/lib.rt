@@ -19,6 +19,7 @@ pub use elements::SetElement;
 pub use lists::{elems, pairs};
 pub use maps::MapPair;
 pub use references::{map_ref, set_ref};
+pub use selector_words::{Header, Keywords, without_header};
 pub use type_words::type_has_word;
 pub use values::{comment, range};
 pub use verdicts::verdict;

@@ -1,5 +1,6 @@
 -- Words of nft(8) that this profile doesn't support (own): they decide between E05 and E06.
 use Rattle.std.specs.Prelude.{List, [], ◌∷◌, Bool, false, codes}
+use Rattle.std.specs.Borrow.{Bor}
 use Rattle.std.specs.List.{list_any}
 use Rattle.std.specs.Str.{bytes_eq}
 use Rattle.nft_lexer.specs.Terminal as terminals
@@ -22,6 +23,10 @@ unsupported =
     ∷ codes "jhash" ∷ codes "symhash" ∷ codes "fib" ∷ codes "rt" ∷ codes "socket" ∷ codes "osf"
     ∷ codes "random" ∷
     codes "fully-random" ∷ codes "persistent" ∷ codes "dscp" ∷ []
+
+-- The word of a row of a static table, without what stands beside it.
+abbrev pub word_in : {A : Type 0} → Bor Text × A → Text
+word_in row = row.0.now
 
 abbrev pub is_unsupported : Terminal → Bool
 is_unsupported (terminals.word w) = list_any (bytes_eq w) unsupported

@@ -18,4 +18,4 @@ pub use element_lists::{Elements, Pairs};
 pub use fields::{AnyField, Field, block_start, elements_start};
 pub use tables::{AnyTable, TableItem, ruleset, ruleset_start, table_start};
 pub use types::{MapTypes, SetTypes};
-pub use unsupported_words::has_unsupported;
+pub use unsupported_words::{NO_VARIABLES, ONLY_IPV4, has_unsupported, instead_of};

@@ -1,6 +1,6 @@
 //! Data types: which one a selector reads, its width, and its symbolic constants, as `nft describe`
 //! lists them (nft(8), "Data types").
-ghost use Rattle.nft_tree.specs.ValueTypes.{entry_in, entry_of, type_named, type_width, selector_type, selector_width, words_of, number_in};
+ghost use Rattle.nft_tree.specs.ValueTypes.{entry_in, entry_of, type_named, type_width, selector_type, selector_width, words_of, named_types, number_in};
 ghost use Rattle.std.specs.Prelude.{◌≡◌, map, IfSome};
 
 use crate::selector::{Selector, ValueType};
@@ -147,6 +147,13 @@ impl Selector {
 }
 
 impl ValueType {
+    /// The data types with their names.
+    pub fn with_names() -> &'static [(&'static [u8], ValueType)]
+        ensures { map entry_of result.now ≡ named_types }
+    {
+        &TYPES
+    }
+
     /// The data type of this name, as in `type ipv4_addr`.
     pub fn named(name: &[u8]) -> Option<ValueType>
         ensures { result ≡ type_named name.now }
@@ -182,8 +189,9 @@ impl ValueType {
         find(self.words(), word)
     }
 
-    /// The symbolic constants of the type.
-    fn words(self) -> &'static [(&'static [u8], u32)]
+    /// The symbolic constants of the type, each with its number; none of addresses, interfaces and
+    /// marks.
+    pub fn words(self) -> &'static [(&'static [u8], u32)]
         ensures { map entry_of result.now ≡ words_of self }
     {
         match self {
