@@ -13,22 +13,18 @@ from captures import placed
 from files import ROWS, TOP, contents
 from plain import ETHERNET, LINUX_SLL2, MICROSECONDS, NANOSECONDS, RAW_IP, checksum
 from rows import rows
+from words import SPOKEN
 
 MOST = 1_048_576
 NUMBERS = [0, 1, 2, 3, 15, 16, 17, 31, 32, 33, 63, 64, 127, 128, 255, 256, 1023, 1024, 16384, 16385, 32767, 32768]
 NUMBERS += [65535, 65536, 65537, 262144, 262145, 604800, 604801, 2**31 - 1, 2**31, 2**32 - 1, 2**32, 2**62, 2**62 + 1]
 NUMBERS += [2**63 - 1, 2**63, 2**64 - 1, 2**64, 10**30]
 WORDS = re.compile(rb"[A-Za-z_][A-Za-z0-9_.-]*|[0-9][0-9a-fx./]*|\"[^\"\n]*\"|\n|[ \t]+|.", re.S)
-EXTRA = (
-    b"{ } ; , \" # \\ \n != == < > <= >= - / * @ 0x 07 1.2.3.256 255.255.255.255 0.0.0.0/0 $ ! . accept drop return"
-    b" continue jump goto queue vmap map set chain table ip ip6 inet type filter nat hook prerouting input forward"
-    b" output postrouting priority policy srcnat dstnat raw mangle security conntrack ct state status direction mark"
-    b" original"
-    b" reply saddr daddr established related new invalid untracked snat dnat masquerade redirect to : random persistent"
-    b" log prefix counter packets bytes meta iif oif iifname oifname length l4proto protocol tcp udp icmp sport dport"
-    b" flags syn ack fin rst type code ttl tos dscp notrack elements interval flags constant ipv4_addr inet_service"
-    b" inet_proto mark iface_index ifname verdict comment interface route default idle transitory established ask other"
-).split(b" ")
+EXTRA = [*(
+    b"{ } ; , \" # \\ \n != == < > <= >= - / * @ 0x 07 1.2.3.256 255.255.255.255 0.0.0.0/0 $ ! . : vmap map set chain"
+    b" table inet nat hook priority policy conntrack to prefix packets bytes code tos elements interval constant"
+    b" verdict interface route default idle transitory ask other"
+).split(b" "), *(word.encode() for word in SPOKEN)]
 FIELDS = (MICROSECONDS, NANOSECONDS, RAW_IP, ETHERNET, LINUX_SLL2, 999_999, 1_000_000, 999_999_999, 10**9)
 # Where a packet is altered, and to what.
 PLACES = (0, 1, 2, 3, 6, 7, 8, 9, 9, 12, 15, 16, 19, 20, 21, 22, 23, 24, 25, 28, 29, 37, 41, 48, 49)

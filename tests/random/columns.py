@@ -9,31 +9,16 @@ from __future__ import annotations
 import random
 from dataclasses import dataclass, field, replace
 from functools import lru_cache
-from typing import Dict, Hashable, Mapping, Sequence, Tuple, TypeVar, Union
+from typing import Dict, Hashable, Mapping, Sequence, TypeVar, Union
 
-from drawn import LAN
-from facts import Facts
+from facts import ANY, READS, Facts, Fields
 from reading import SELECTORS, Value
-from tracking import TCP
 
 Vector = int
-Fields = Tuple[str, ...]
 Values = Dict[Union[Value, None], Vector]
 K = TypeVar("K")
 
-PROTOCOL, STATE = "protocol", "state"
-# The fields that selectors read.
-READS: dict[str, Fields] = {
-    "ip saddr": ("source",), "ip daddr": ("destination",), "ip protocol": (PROTOCOL,), "meta l4proto": (PROTOCOL,),
-    "ip ttl": ("ttl",), "ip length": ("length",), "meta length": ("length",), "meta mark": ("mark",),
-    "meta nfproto": (), "iifname": ("input",), "iif": ("input",), "oifname": ("output",), "oif": ("output",),
-    "ct state": (STATE,), "ct mark": (STATE, "ct_mark"), "ct direction": (STATE, "is_reply"),
-    "ct status": (STATE, "status"), "tcp flags": (PROTOCOL, "flags"), "icmp type": (PROTOCOL, "icmp_type"),
-    **{f"{family} sport": (PROTOCOL, "source_port") for family in ("tcp", "udp", "th")},
-    **{f"{family} dport": (PROTOCOL, "destination_port") for family in ("tcp", "udp", "th")},
-}
 IN_BYTE = 8
-ANY = Facts(TCP, 0, 0, 0, 0, 0, 0, 64, 40, 0, LAN, None, None, False, 0, 0)
 FREE = 4  # of so many copies of all facts the fields of one are drawn each by itself
 CHANGED = 3  # of the others' fields each is changed by the chance of one to two by this power
 

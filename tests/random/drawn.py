@@ -9,12 +9,13 @@ from dataclasses import dataclass
 from typing import Callable, Iterator, Sequence, Tuple, TypeVar, Union
 
 from reading import (
-    PRIORITIES, Box, Chain, Counter, Element, HasBits, HasOfMask, Head, Interface, IsIn, IsPart, Log, Lookup, Match,
-    Name, Notrack, Pair, Part, Route, Rule, SetMark, Span, Statement, Table, Translate, Verdict, VerdictMap, Word,
-    shares,
+    PRIORITIES, SELECTORS, Box, Chain, Counter, Element, HasBits, HasOfMask, Head, Interface, IsIn, IsPart, Log, Lookup,
+    Match, Name, Notrack, Pair, Part, Route, Rule, SetMark, Span, Statement, Table, Translate, Verdict, VerdictMap,
+    Word, shares,
 )
-from tracking import State
 from translating import Ports
+from words import GREATEST, KINDS, ORDERED, RANGED, want_each
+from words import WORDS as ALL_WORDS
 
 T = TypeVar("T")
 Kinds = Tuple[str, ...]  # types of the values of an element, or selectors
@@ -37,38 +38,15 @@ BOX = Box(
      Route(FIRST + 40, 30, W), Route(FIRST + 32, 29, LAN0), Route(FIRST + 16, 29, W)],
 )
 
-# Of each selector the type of its values; those whose types have no name stand for themselves.
-KINDS = {
-    "ip saddr": "ipv4_addr", "ip daddr": "ipv4_addr", "ip protocol": "inet_proto", "meta l4proto": "inet_proto",
-    "ip ttl": "ip ttl", "ip length": "ip length", "meta length": "meta length",
-    "tcp sport": "inet_service", "tcp dport": "inet_service", "udp sport": "inet_service", "udp dport": "inet_service",
-    "th sport": "inet_service", "th dport": "inet_service", "tcp flags": "tcp_flag", "icmp type": "icmp_type",
-    "iifname": "ifname", "oifname": "ifname", "iif": "iface_index", "oif": "iface_index",
-    "meta mark": "mark", "ct mark": "mark", "meta nfproto": "nf_proto",
-    "ct state": "ct_state", "ct direction": "ct_dir", "ct status": "ct_status",
-}
+want_each("SELECTORS of tests/random/reading.py", SELECTORS)
+# Words that aren't drawn, so that each seed gives the same ruleset as before they were known.
+UNDRAWN = ("esp", "ah", "ipv6-icmp", "sctp", "domain", "http", "ntp", "https", "router-solicitation", "timestamp-reply",
+           "info-request", "address-mask-request", "address-mask-reply")
 WORDS: dict[str, dict[str, int]] = {
-    "inet_proto": {"icmp": 1, "igmp": 2, "tcp": 6, "udp": 17, "gre": 47},
-    "inet_service": {"ssh": 22, "smtp": 25},
-    "tcp_flag": {"fin": 1, "syn": 2, "rst": 4, "psh": 8, "ack": 16, "urg": 32, "ecn": 64, "cwr": 128},
-    "icmp_type": {
-        "echo-reply": 0, "destination-unreachable": 3, "source-quench": 4, "redirect": 5, "echo-request": 8,
-        "router-advertisement": 9, "time-exceeded": 11, "parameter-problem": 12, "timestamp-request": 13,
-        "info-reply": 16,
-    },
-    "nf_proto": {"ipv4": 2, "ipv6": 10},
-    "ct_state": {state.word: state.value for state in State},
-    "ct_dir": {"original": 0, "reply": 1},
-    "ct_status": {"seen-reply": 2, "snat": 16, "dnat": 32},
-    "iface_index": {"lan": 2, "lan0": 3, "wan": 5, "w": 17},
+    **{kind: {word: number for word, number in known.items() if word not in UNDRAWN}
+       for kind, known in ALL_WORDS.items()},
+    "iface_index": {one.name: one.index for one in (LAN, LAN0, WAN, W)},
 }
-GREATEST = {
-    "ipv4_addr": 2**32 - 1, "inet_proto": 255, "ip ttl": 255, "ip length": 65_535, "meta length": 2**32 - 1,
-    "inet_service": 65_535, "tcp_flag": 255, "icmp_type": 255, "mark": 2**32 - 1, "nf_proto": 255, "ct_dir": 255,
-}
-# The types that have an order, and those that have ranges.
-ORDERED = ("ipv4_addr", "inet_service", "mark", "ip ttl", "ip length", "meta length")
-RANGED = (*ORDERED, "inet_proto", "icmp_type")
 NAMES = ("lan", "lan0", "wan", "w", "la", "eth0")
 # Before the lookup and behind it, before the nat chains and behind them, and at each border.
 PREROUTING = (

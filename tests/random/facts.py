@@ -7,20 +7,23 @@ from __future__ import annotations
 
 import struct
 from dataclasses import dataclass, field, replace
-from typing import AbstractSet, Iterator, Set
+from typing import AbstractSet, Iterator, Set, Tuple
 
-from drawn import BOX, Drawing
+from drawn import BITS, BOX, LAN, Drawing
 from reading import Chain, Head, Interface, Match, Met, Rule, Table, Taken
 from rows import datagram
 from told_lines import Line, Where, bounds_of
 from tracking import ICMP, TCP, UDP, Belonging, Connection, Ends, Kind, Packet, Seen, State, Tracking
+from words import KINDS, want_each
+
+Fields = Tuple[str, ...]
 
 # Filter chains on prerouting of this priority or below run before the lookup.
 RAW = -200
 ROUTED = ("forward", "postrouting")
 RUN = ("prerouting", "input", *ROUTED)
 KNOWN = (State.NEW, State.ESTABLISHED, State.RELATED)
-LEAST_LENGTH = 20  # of an IPv4 packet: its header
+LEAST_LENGTH, MOST_LENGTH = 20, 65_535  # of an IPv4 packet: that of its header, and of its field
 
 
 @dataclass
@@ -125,13 +128,22 @@ class Facts:
         return met
 
 
-# Of selectors of numbers the fields that they read.
-FIELDS = {
-    "ip saddr": "source", "ip daddr": "destination", "ip protocol": "protocol", "meta l4proto": "protocol",
-    "tcp sport": "source_port", "udp sport": "source_port", "th sport": "source_port", "tcp dport": "destination_port",
-    "udp dport": "destination_port", "th dport": "destination_port", "icmp type": "icmp_type", "ip ttl": "ttl",
-    "ip length": "length", "meta mark": "mark", "ct mark": "ct_mark",
+PROTOCOL, STATE = "protocol", "state"
+# The fields that selectors read: the last has the value, one before it tells whether there is any.
+READS: dict[str, Fields] = {
+    "ip saddr": ("source",), "ip daddr": ("destination",), "ip protocol": (PROTOCOL,), "meta l4proto": (PROTOCOL,),
+    "ip ttl": ("ttl",), "ip length": ("length",), "meta length": ("length",), "meta mark": ("mark",),
+    "meta nfproto": (), "iifname": ("input",), "iif": ("input",), "oifname": ("output",), "oif": ("output",),
+    "ct state": (STATE,), "ct mark": (STATE, "ct_mark"), "ct direction": (STATE, "is_reply"),
+    "ct status": (STATE, "status"), "tcp flags": (PROTOCOL, "flags"), "icmp type": (PROTOCOL, "icmp_type"),
+    **{f"{family} sport": (PROTOCOL, "source_port") for family in ("tcp", "udp", "th")},
+    **{f"{family} dport": (PROTOCOL, "destination_port") for family in ("tcp", "udp", "th")},
 }
+want_each("READS of tests/random/facts.py", READS)
+ANY = Facts(TCP, 1, 2, 3, 4, 18, 8, 64, 40, 0, LAN, None, State.NEW, False, 0, 0)
+# Of selectors of numbers the field that has it.
+FIELDS = {selector: fields[-1] for selector, fields in READS.items()
+          if fields and KINDS[selector] not in (*BITS, "ifname", "iface_index", "ct_dir")}
 PROTOCOLS = {"tcp": (TCP,), "udp": (UDP,), "th": (TCP, UDP), "icmp": (ICMP,)}
 
 
@@ -168,7 +180,7 @@ class FactsDrawing(Drawing):
         choices = [replace(facts, **{FIELDS[selector]: number}) for number in bounds_of(match)] \
             if selector in FIELDS else list(self.others(facts, selector))
         fitting = [one for one in choices
-                   if one.length >= LEAST_LENGTH and bool(match.take(one.met())) != is_missed]
+                   if LEAST_LENGTH <= one.length <= MOST_LENGTH and bool(match.take(one.met())) != is_missed]
         return self.one(*fitting) if fitting else facts
 
     def others(self, facts: Facts, selector: str) -> Iterator[Facts]:

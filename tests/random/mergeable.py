@@ -5,13 +5,17 @@ from __future__ import annotations
 import random
 from typing import Sequence
 
-from drawn import BITS, KINDS, ORDERED, Drawing, dotted
+from drawn import BITS, WORDS, Drawing, dotted
+from words import KINDS, ORDERED, want_each
 
 FREE = ("ip saddr", "ip daddr", "ip ttl", "ip length", "ct state", "ct mark", "ct direction", "meta mark", "iifname",
         "iif", "ct status")
 # Of these a rule has one at most.
 TRANSPORT = ("tcp dport", "tcp sport", "tcp flags", "udp dport", "udp sport", "icmp type", "ip protocol",
              "meta l4proto", "th dport")
+# These have no value on some hooks, the same of all packets, or that of another.
+UNDRAWN = ("oifname", "oif", "meta nfproto", "meta length", "th sport")
+want_each("FREE, TRANSPORT and UNDRAWN of tests/random/mergeable.py", (*FREE, *TRANSPORT, *UNDRAWN))
 BASES = (
     ("filter", "prerouting", "-150"), ("filter", "input", "0"), ("filter", "forward", "0"),
     ("filter", "forward", "10"), ("nat", "prerouting", "-100"), ("nat", "postrouting", "100"))
@@ -67,7 +71,7 @@ class MergeableDrawing(Drawing):
 
     def bit_words(self, kind: str) -> list[str]:
         words = {"ct_state": ("new", "established", "related", "invalid", "untracked"),
-                 "ct_status": ("seen-reply", "snat", "dnat"), "tcp_flag": ("syn", "ack", "fin", "rst")}[kind]
+                 "tcp_flag": ("syn", "ack", "fin", "rst")}.get(kind, tuple(WORDS[kind]))
         return self.dice.sample(words, 1 if self.chance(80) else 2)
 
 

@@ -6,7 +6,7 @@ import re
 from dataclasses import dataclass, replace
 from typing import AbstractSet, Callable, Optional, Sequence
 
-from drawn import GREATEST, KINDS, NAT_WORDS, RANGED, WORDS, Drawing, WrittenChain, dotted
+from drawn import NAT_WORDS, WORDS, Drawing, WrittenChain, dotted
 from near import called_by, ways_to
 from reading import (
     Chain, HasBits, IsPart, Match, Notrack, Pair, Part, Rule, SetMark, Span, Statement, Translate, Verdict, Word,
@@ -18,6 +18,7 @@ from rewriting import (
 )
 from stages import BY_NAME, Ruleset
 from translating import Ports
+from words import GREATEST, KINDS, RANGED
 
 # Priorities at which stages begin and end, and those beside them.
 BORDERS = (-201, -200, -199, -101, -100, -99, 99, 100, 101)

@@ -5,8 +5,7 @@ from __future__ import annotations
 from dataclasses import dataclass, replace
 from typing import Iterator, Sequence
 
-from drawn import GREATEST, KINDS
-from facts import FIELDS, KNOWN, LEAST_LENGTH, PROTOCOLS, Facts, FactsDrawing
+from facts import FIELDS, KNOWN, LEAST_LENGTH, MOST_LENGTH, PROTOCOLS, Facts, FactsDrawing
 from reading import (
     Element, HasBits, HasOfMask, IsIn, IsPart, Lookup, Match, Part, Rule, SetMark, Span, Statement, Table, Translate,
     Verdict, VerdictMap,
@@ -14,9 +13,9 @@ from reading import (
 from stages import Ruleset, Stage
 from told_lines import Line
 from tracking import TCP, State
+from words import GREATEST, KINDS
 
 Way = Sequence[Rule]  # rules that lead to a chain, from its base chain on
-FIELD_OF = {**FIELDS, "meta length": "length"}
 
 
 @dataclass(frozen=True)
@@ -122,12 +121,12 @@ class StageDrawing(FactsDrawing):
         family = selector.split(" ")[0]
         if family in PROTOCOLS:
             facts = replace(facts, protocol=self.one(*PROTOCOLS[family]))
-        if selector in FIELD_OF and isinstance(part, Span):
+        if selector in FIELDS and isinstance(part, Span):
             number = self.one(part.low, part.low, part.high, part.high, part.low - 1, part.high + 1)
-            most = min(GREATEST[KINDS[selector]], 65_535 if selector == "meta length" else 2**32 - 1)
-            return replace(facts, **{FIELD_OF[selector]: min(max(number, 0), most)})
+            most = MOST_LENGTH if FIELDS[selector] == "length" else GREATEST[KINDS[selector]]
+            return replace(facts, **{FIELDS[selector]: min(max(number, 0), most)})
         match = Match((selector,), "", IsIn("", [(part,)], ""), "")
-        return self.with_match(facts, match, False) if selector not in FIELD_OF else facts
+        return self.with_match(facts, match, False) if selector not in FIELDS else facts
 
 
 def ways_to(ruleset: Ruleset, stage: str) -> dict[str, Way]:

@@ -8,7 +8,7 @@ from __future__ import annotations
 from dataclasses import dataclass, replace
 from typing import Callable, Sequence
 
-from drawn import FIRST, KINDS, RANGED, Declared, Drawing, WrittenChain, dotted
+from drawn import FIRST, Declared, Drawing, WrittenChain, dotted
 from mutating import Changed
 from reading import (
     Chain, Counter, Element, HasBits, IsIn, IsPart, Lookup, Match, Pair, Rule, SetMark, Span, Statement, Translate,
@@ -16,9 +16,12 @@ from reading import (
 )
 from rewriting import Place, Written, chain_at, match_of, part_text, with_rules, with_statements, with_table
 from tracking import State
+from words import KINDS, RANGED
 
-# Selectors whose values are few numbers with ranges.
-SELECTORS = ("ip saddr", "ip daddr", "tcp dport", "udp sport", "th dport", "ip protocol", "ip ttl", "icmp type")
+# Selectors whose values are few numbers with ranges: some of each type, but of marks, which rules write, and lengths.
+SOME = ("ip saddr", "ip daddr", "tcp dport", "udp sport", "th dport", "ip protocol", "ip ttl", "icmp type")
+WITHOUT = (*(KINDS[selector] for selector in SOME), "mark", "ip length", "meta length")
+SELECTORS = (*SOME, *(selector for selector, kind in KINDS.items() if kind in RANGED and kind not in WITHOUT))
 ENDS = (Word.ACCEPT, Word.DROP, Word.RETURN)
 
 

@@ -5,12 +5,13 @@ import re
 from dataclasses import dataclass, replace
 from typing import Callable, Iterator, Sequence, Tuple, Union
 
-from drawn import BITS, KINDS, WORDS, Declared, WrittenChain, WrittenTable, dotted
+from drawn import BITS, WORDS, Declared, WrittenChain, WrittenTable, dotted
 from near import looked_up
 from reading import (
     Chain, Element, HasBits, IsIn, IsPart, Lookup, Match, Name, Pair, Part, Rule, SetMark, Statement, Test, Translate,
     VerdictMap,
 )
+from words import KINDS
 
 Written = Tuple[WrittenTable, ...]
 Content = Union[Element, Pair]

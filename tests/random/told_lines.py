@@ -10,7 +10,8 @@ from dataclasses import dataclass, field
 from functools import lru_cache
 from typing import Dict, Iterator, Sequence, Tuple
 
-from reading import SELECTORS, Element, HasBits, HasOfMask, IsIn, Match, Met, Name, Part, Span, Test
+from reading import Element, HasBits, HasOfMask, IsIn, Match, Met, Name, Part, Span, Test
+from words import GREATEST, KINDS, WORDS
 
 Where = Tuple[str, int]  # a chain's path, and the number of a rule
 Line = Sequence[Match]
@@ -19,26 +20,7 @@ MORE = re.compile("(?:at least )?[0-9]+ more")
 HEAD = re.compile("(rule|policy) (\\S+ \\S+ \\S+)(?: ([0-9]+))? (.*)")
 OF_SET = re.compile("  (reached|met|ends) in (\\S+): (.*)")
 TOKENS = re.compile('"[^"]*"|[{}(),|&]|==|!=|[^\\s{}(),|&"]+')
-WORDS = {
-    "ip protocol": {
-        "icmp": 1, "igmp": 2, "tcp": 6, "udp": 17, "gre": 47, "esp": 50, "ah": 51, "ipv6-icmp": 58, "sctp": 132},
-    "tcp flags": {"fin": 1, "syn": 2, "rst": 4, "psh": 8, "ack": 16, "urg": 32, "ecn": 64, "cwr": 128},
-    "icmp type": {
-        "echo-reply": 0, "destination-unreachable": 3, "source-quench": 4, "redirect": 5, "echo-request": 8,
-        "router-advertisement": 9, "router-solicitation": 10, "time-exceeded": 11, "parameter-problem": 12,
-        "timestamp-request": 13, "timestamp-reply": 14, "info-request": 15, "info-reply": 16,
-        "address-mask-request": 17, "address-mask-reply": 18},
-    "ct state": {"invalid": 1, "established": 2, "related": 4, "new": 8, "untracked": 64},
-    "ct direction": {"original": 0, "reply": 1},
-    "ct status": {"seen-reply": 2, "snat": 16, "dnat": 32},
-}
-WORDS["meta l4proto"] = WORDS["ip protocol"]
 OF_BITS = ("ct state", "ct status", "tcp flags")
-GREATEST = {
-    "ip saddr": 2**32 - 1, "ip daddr": 2**32 - 1, "meta mark": 2**32 - 1, "ct mark": 2**32 - 1, "ip length": 65_535,
-    "tcp sport": 65_535, "tcp dport": 65_535, "udp sport": 65_535, "udp dport": 65_535, "th sport": 65_535,
-    "th dport": 65_535, "ip protocol": 255, "meta l4proto": 255, "ip ttl": 255, "icmp type": 255,
-}
 
 
 class Unread(Exception):
@@ -126,16 +108,16 @@ def line_of(text: str) -> Line:
 def match_from(tokens: list[str]) -> Match:
     """The first match, whose tokens are taken away."""
     selector = tokens.pop(0)
-    if selector not in SELECTORS:
+    if selector not in KINDS:
         selector = f"{selector} {tokens.pop(0)}" if tokens else selector
-    if selector not in SELECTORS:
+    if selector not in KINDS:
         raise Unread(selector)
     if selector == "tcp flags" and tokens[:1] == ["&"]:
         return masked(tokens)
     operator = tokens.pop(0) if tokens[:1] in (["=="], ["!="]) else ""
     test: Test
     if selector in OF_BITS:
-        test = HasBits(operator, sum(WORDS[selector][word] for word in listed(tokens, ",")))
+        test = HasBits(operator, sum(WORDS[KINDS[selector]][word] for word in listed(tokens, ",")))
     else:
         elements = tuple(elements_from(tokens, selector))
         test = IsIn(operator, elements, "told")
@@ -158,7 +140,7 @@ def flags_of(tokens: list[str]) -> int:
         tokens.pop(0)
     else:
         words = [tokens.pop(0)]
-    return sum(0 if word == "0" else WORDS["tcp flags"][word] for word in words)
+    return sum(0 if word == "0" else WORDS["tcp_flag"][word] for word in words)
 
 
 def listed(tokens: list[str], mark: str) -> list[str]:
@@ -207,8 +189,9 @@ def whole_number(word: str, selector: str) -> int:
 
 def number_of(word: str, selector: str) -> int | None:
     """The number of a word, or None of what is none alone."""
-    if word in WORDS.get(selector, {}):
-        return WORDS[selector][word]
+    known = WORDS.get(KINDS[selector], {})
+    if word in known:
+        return known[word]
     if re.fullmatch("[0-9]+|0x[0-9a-f]+", word):
         return int(word, 0)
     parts = word.split(".")
@@ -220,8 +203,8 @@ def number_of(word: str, selector: str) -> int | None:
 def bounds_of(match: Match) -> list[int]:
     """The numbers at the bounds of what a match tests, and just beside them; none of names and bits."""
     (selector,) = match.selectors
-    if not isinstance(match.test, IsIn) or selector not in GREATEST:
+    if not isinstance(match.test, IsIn):
         return []
     spans = [part for element in match.test.elements for part in element if isinstance(part, Span)]
     near = {number for span in spans for number in (span.low - 1, span.low, span.high, span.high + 1)}
-    return sorted(number for number in near if 0 <= number <= GREATEST[selector])
+    return sorted(number for number in near if 0 <= number <= GREATEST[KINDS[selector]])

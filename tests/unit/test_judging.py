@@ -4,6 +4,7 @@ from __future__ import annotations
 import random
 import sys
 import unittest
+from dataclasses import replace
 from typing import Sequence
 
 from support import TOP
@@ -11,18 +12,17 @@ from support import TOP
 sys.path.insert(0, str(TOP / "tests/random"))
 
 from drawn import WrittenChain, WrittenTable  # noqa: E402
-from facts import Facts  # noqa: E402
+from facts import ANY, Facts  # noqa: E402
 from hand_made import MadePair, faults, made_pairs, wanted_of  # noqa: E402
 from judging import Judged, judging  # noqa: E402
 from near import StageDrawing  # noqa: E402
 from pairs import paired  # noqa: E402
-from reading import Chain, Head, Interface, IsPart, Match, Notrack, Rule, SetMark, Span, Statement  # noqa: E402
+from reading import Chain, Head, IsPart, Match, Notrack, Rule, SetMark, Span, Statement  # noqa: E402
 from reading import Translate, Verdict, Word  # noqa: E402
 from rewriting import RulesetPair  # noqa: E402
 from stages import BY_NAME, Pair, Result, Ruleset  # noqa: E402
 from stand_in_diff import answer  # noqa: E402
 from told_diff import Differences, class_of, differences_in  # noqa: E402
-from tracking import State  # noqa: E402
 from translating import Ports  # noqa: E402
 
 FORWARD = Head("forward", "filter", 0, Word.DROP)
@@ -51,11 +51,7 @@ def judged(old: WrittenTable, new: WrittenTable, told: str, is_same: bool = Fals
 
 
 def facts(**fields: object) -> Facts:
-    usual: dict[str, object] = {
-        "protocol": 6, "source": 1, "destination": 2, "source_port": 3, "destination_port": 4, "flags": 18,
-        "icmp_type": 8, "ttl": 64, "length": 40, "mark": 3, "input": Interface(2, "lan"), "output": None,
-        "state": State.NEW, "is_reply": False, "status": 0, "ct_mark": 4}
-    return Facts(**{**usual, **fields})  # type: ignore[arg-type]
+    return replace(ANY, **{"mark": 3, "ct_mark": 4, **fields})  # type: ignore[arg-type]
 
 
 class OfStages(unittest.TestCase):

@@ -5,26 +5,30 @@ from __future__ import annotations
 import random
 import sys
 import unittest
+from dataclasses import replace
 from typing import Sequence
 
 from support import TOP
 
 sys.path.insert(0, str(TOP / "tests/random"))
 
+from arriving import drawn  # noqa: E402
 from columns import Columns, count, first, multiplied  # noqa: E402
-from drawn import WrittenChain, WrittenTable  # noqa: E402
-from facts import FactsDrawing, Reached, base_chains, come_to, watch  # noqa: E402
+from drawn import BOX, LAN, WrittenChain, WrittenTable  # noqa: E402
+from facts import ANY, FIELDS, PROTOCOL, PROTOCOLS, READS, STATE, FactsDrawing, Reached  # noqa: E402
+from facts import base_chains, come_to, watch  # noqa: E402
 from judging import Judged, judging  # noqa: E402
 from many import ManyJudging, accepted, result  # noqa: E402
 from many_reach import ManyComparison  # noqa: E402
 from near import StageDrawing  # noqa: E402
 from pairs import paired  # noqa: E402
 from reading import Chain, HasBits, Head, IsIn, IsPart, Lookup, Match, Notrack, Pair, Rule, SetMark, Span  # noqa: E402
-from reading import SELECTORS, Counter, Statement, Table, Translate, Verdict, VerdictMap, Word  # noqa: E402
+from reading import SELECTORS, Counter, Met, Statement, Table, Translate, Verdict, VerdictMap, Word  # noqa: E402
 from rewriting import RulesetPair  # noqa: E402
 from stages import BY_NAME, Ruleset, accepts  # noqa: E402
 from told_diff import differences_in  # noqa: E402
 from told_lines import told_in  # noqa: E402
+from tracking import TCP, Seen  # noqa: E402
 from translating import Ports  # noqa: E402
 from walking import Walk, done  # noqa: E402
 
@@ -86,6 +90,26 @@ class OfColumns(unittest.TestCase):
                     self.assertTrue(some, selector)
                     for number, met in enumerate(mets):
                         self.assertEqual(read(met) == value, bool(some >> number & 1), (selector, value))
+
+    def test_what_each_selector_reads_can_be_drawn(self) -> None:
+        """But for what all packets have alike; and of each header with a field of its own the protocol."""
+        drawing = FactsDrawing(random.Random(1), False)
+        for selector, fields in READS.items():
+            family = selector.split(" ")[0]
+            facts = replace(ANY, protocol=PROTOCOLS.get(family, (TCP,))[0], output=LAN)
+            numbered = [replace(facts, **{FIELDS[selector]: 7})] if selector in FIELDS else []
+            others = [*numbered, *drawing.others(facts, selector)]
+            values = {SELECTORS[selector](one.met()) for one in (facts, *others)}
+            self.assertEqual(len(values) > 1, selector != "meta nfproto", selector)
+            self.assertEqual(family in PROTOCOLS, fields[:-1] == (PROTOCOL,), selector)
+
+    def test_packets_of_captures_differ_in_what_each_selector_reads(self) -> None:
+        """But for what comes about on their way."""
+        arrived = [one for seed in SEEDS for one in drawn(seed, 30).run.arrived]
+        mets = [Met(1, one.packet, BOX.interfaces[one.interface], Seen()) for one in arrived]
+        for selector, fields in READS.items():
+            if fields and not {STATE, "mark", "output"}.intersection(fields):
+                self.assertGreater(len({SELECTORS[selector](met) for met in mets} - {None}), 1, selector)
 
     def test_counting(self) -> None:
         self.assertEqual((count(0), count(0b1011), first(0b1000), first(1)), (0, 3, 3, 0))

@@ -14,8 +14,8 @@ from toolbox.reach_packets import logging, mark_in, why_not
 from toolbox.rulesets import Ruleset
 from toolbox.shaping import Shaping
 from toolbox.told_sets import (
-    ANYTHING, CT_MARK, DESTINATION, DESTINATION_PORT, DIRECTION, FLAGS, ICMP_TYPE, INPUT, LENGTH, MARK, OUTPUT,
-    PROTOCOL, SOURCE, STATE, STATUS, TTL, Facts, facts_of, told_of)
+    ANYTHING, CT_MARK, DESTINATION, DESTINATION_PORT, DIRECTION, DOMAINS, FLAGS, ICMP_TYPE, INPUT, LENGTH, MARK, OUTPUT,
+    PROTOCOL, SOURCE, SOURCE_PORT, STATE, STATUS, TTL, Facts, facts_of, told_of)
 
 RULES = """table inet filter {
 	chain raw { type filter hook prerouting priority raw; ip saddr 10.0.0.0/8 notrack }
@@ -214,6 +214,12 @@ class OfWays(FilesCase):
         self.assertTrue(sums_up(made.packet[:20]))
         pseudo = made.packet[12:20] + bytes([0, 6, 0, 70]) + made.packet[20:]
         self.assertTrue(sums_up(pseudo))
+
+    def test_packets_are_made_for_each_field(self) -> None:
+        """But for what comes about on the way, by rules and the packets before, and the family, which is one alone."""
+        made = {INPUT, PROTOCOL, SOURCE, DESTINATION, SOURCE_PORT, DESTINATION_PORT, FLAGS, ICMP_TYPE, LENGTH, TTL}
+        come_about = {OUTPUT, MARK, CT_MARK, STATE, DIRECTION, STATUS}
+        self.assertEqual({*DOMAINS}, {*made, *come_about, "meta nfproto"})
 
     def test_no_packet_is_that_short(self) -> None:
         self.assertIsNone(Shaping(self.network).made(Facts({PROTOCOL: numbers(6), LENGTH: Numbers.between(0, 39)})))

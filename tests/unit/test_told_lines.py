@@ -3,31 +3,27 @@ from __future__ import annotations
 
 import sys
 import unittest
+from dataclasses import replace
 from typing import Dict, Sequence, Tuple
 
 from support import TOP
 
 sys.path.insert(0, str(TOP / "tests/random"))
 
-from facts import Facts  # noqa: E402
-from reading import Interface  # noqa: E402
+from drawn import WAN  # noqa: E402
+from facts import ANY  # noqa: E402
 from told_lines import Lines, Unread, bounds_of, line_of, told_in  # noqa: E402
 from tracking import State  # noqa: E402
 
 # a line, and fields of facts that stand in it, and of facts that don't
 Case = Tuple[str, Dict[str, object], Dict[str, object]]
-LAN, WAN = Interface(2, "lan"), Interface(5, "wan")
 
 
 def stands(text: str, **fields: object) -> bool:
     """Whether facts stand in the line."""
-    usual: dict[str, object] = {
-        "protocol": 6, "source": 1, "destination": 2, "source_port": 3, "destination_port": 4, "flags": 18,
-        "icmp_type": 8, "ttl": 64, "length": 40, "mark": 0, "input": LAN, "output": None, "state": State.NEW,
-        "is_reply": False, "status": 0, "ct_mark": 0}
     lines = Lines()
     lines.take(text)
-    return lines.has(Facts(**{**usual, **fields}).met())  # type: ignore[arg-type]
+    return lines.has(replace(ANY, **fields).met())
 
 
 class OfLines(unittest.TestCase):

@@ -7,7 +7,7 @@ from __future__ import annotations
 import re
 from dataclasses import dataclass
 
-from .facts import CHAIN_HOOKS, PRIORITIES, TYPES, WORDS
+from .facts import BITS, CHAIN_HOOKS, PRIORITIES, SHORT, TYPES, WORDS
 
 SIZE = 1 << 20
 
@@ -30,35 +30,7 @@ CUT = re.compile(
       | (?P<mark>==|!=|>=|<=|[{}(),;:./\-+=@&|<>])""",
     re.VERBOSE,
 )
-NUMBERED = {
-    "ip saddr",
-    "ip daddr",
-    "ip protocol",
-    "meta l4proto",
-    "ip ttl",
-    "ip length",
-    "meta length",
-    "tcp sport",
-    "tcp dport",
-    "udp sport",
-    "udp dport",
-    "th sport",
-    "th dport",
-    "tcp flags",
-    "icmp type",
-    "meta mark",
-    "meta iifname",
-    "meta oifname",
-    "meta iif",
-    "meta oif",
-    "ct mark",
-    "meta nfproto",
-    "ct state",
-    "ct direction",
-    "ct status",
-}
-BITS = ("ct state", "ct status", "tcp flags")
-FIRST_WORDS = {it.split()[0] for it in NUMBERED}
+FIRST_WORDS = {it.split()[0] for it in TYPES}
 OPERATORS = ("==", "!=", "<", ">", "<=", ">=")
 
 
@@ -382,10 +354,10 @@ class Recognizer:
             self.kind("number")
 
     def selector(self) -> str:
-        if self.skip("iifname", "oifname", "iif", "oif"):
+        if self.skip(*SHORT):
             return "meta " + self.peek(-1).text
         name = f"{self.peek().text} {self.peek(1).text}"
-        if self.peek().kind != "word" or self.peek(1).kind != "word" or name not in NUMBERED:
+        if self.peek().kind != "word" or self.peek(1).kind != "word" or name not in TYPES:
             raise NotTaken
         self.at += 2
         return name
@@ -404,7 +376,7 @@ class Recognizer:
         elif self.has("@", "{") or self.has("==", "!=") and self.has("@", "{", ahead=1):
             self.skip("==", "!=")
             self.named_or_list(False)
-        elif name in BITS:
+        elif TYPES[name] in BITS:
             self.bits(name)
         else:
             self.skip(*OPERATORS)

@@ -48,7 +48,7 @@ class Language:
     def of(cls, data: Mapping[str, Any]) -> Language:
         return cls(
             tuple(data["verdicts"]), tuple(data["statements"]), tuple(data["hooks"]), data["priorities"],
-            {name: ValueType(**one) for name, one in data["types"].items()},
+            {name: ValueType(one["width"], one["words"]) for name, one in data["types"].items()},
             {name: Selector(**one) for name, one in data["selectors"].items()},
             tuple(data["without_meta"]), data["longest_key"])
 

@@ -29,17 +29,19 @@ STATES = Numbers.listed((NO_STATE, INVALID, ESTABLISHED, RELATED, NEW, UNTRACKED
 ORIGINAL, REPLY = 0, 1
 SEEN_REPLY, SNAT, DNAT = 2, 16, 32
 STATUSES = Numbers.listed(seen + source + target for seen in (0, 2) for source in (0, 16) for target in (0, 32))
-DOMAINS: Mapping[str, Numbers] = {
-    STATE: STATES, STATUS: STATUSES, DIRECTION: Numbers.between(0, 1),
-    **{name: Numbers.between(0, 255) for name in (PROTOCOL, FLAGS, ICMP_TYPE, TTL)},
-    **{name: Numbers.between(0, 65535) for name in (SOURCE_PORT, DESTINATION_PORT, LENGTH)},
-    **{name: Numbers.between(0, (1 << 32) - 1) for name in (SOURCE, DESTINATION, MARK, CT_MARK)},
-    **{name: Numbers.between(1, (1 << 31) - 1) for name in (INPUT, OUTPUT)},
-}
 PORTED, OF_CONNECTIONS = Numbers.listed((TCP, UDP)), Numbers.listed((ESTABLISHED, RELATED, NEW))
 # selectors by the field that they read, and what else a value of them tells
 INTERFACES = {"meta iif": INPUT, "meta iifname": INPUT, "meta oif": OUTPUT, "meta oifname": OUTPUT}
-OTHER_NAMES = {"meta l4proto": PROTOCOL, "meta length": LENGTH, **INTERFACES}
+OTHER_NAMES = {
+    "meta l4proto": PROTOCOL, "meta length": LENGTH, **INTERFACES,
+    **{name: port for name in NFT.selectors for port in (SOURCE_PORT, DESTINATION_PORT) if name.endswith(f" {port}")},
+}
+# what a field may be: as its selectors are wide, where nothing else is known
+DOMAINS: Mapping[str, Numbers] = {
+    **{OTHER_NAMES.get(name, name): Numbers.between(0, (1 << one.width) - 1) for name, one in NFT.selectors.items()},
+    STATE: STATES, STATUS: STATUSES, DIRECTION: Numbers.between(0, 1), LENGTH: Numbers.between(0, 65535),
+    **{name: Numbers.between(1, (1 << 31) - 1) for name in (INPUT, OUTPUT)},
+}
 TELLS: Mapping[str, tuple[str, Numbers]] = {
     "tcp": (PROTOCOL, Numbers.listed([TCP])), "udp": (PROTOCOL, Numbers.listed([UDP])), "th": (PROTOCOL, PORTED),
     "icmp": (PROTOCOL, Numbers.listed([ICMP])),
@@ -212,9 +214,7 @@ def match_of(reader: Reader, box: Box) -> Iterator[tuple[str, Numbers]]:
         name = f"meta {name}"
     if name not in NFT.selectors:
         raise reader.refusal()
-    family, _, last = name.partition(" ")
-    field_name = last if last in (SOURCE_PORT, DESTINATION_PORT) else OTHER_NAMES.get(name, name)
-    tells = TELLS.get(name) or TELLS.get(family)
+    field_name, tells = OTHER_NAMES.get(name, name), TELLS.get(name) or TELLS.get(name.partition(" ")[0])
     if tells:
         yield tells
     domain = DOMAINS[field_name] if field_name != STATE else STATES - Numbers.listed([NO_STATE])
