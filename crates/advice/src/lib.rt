@@ -10,9 +10,12 @@ mod unread;
 mod vocabulary;
 
 pub use near::{changes, nearest};
+pub use nft_rulesets::{NO_VARIABLES, ONLY_IPV4};
 pub use sentences::{
     Advice, DID_YOU_MEAN, DID_YOU_MEAN_ONE_OF, Gap, NO_GAP, filled, fixed, greatest_is,
     groups_advice, no_value, one_of, with_text, with_texts, with_words, write_this,
 };
-pub use unread::{COMMENT_MARK, NO_VARIABLES, OF_IPTABLES, OF_JSON, ONLY_IPV4, Place, left_out};
-pub use vocabulary::{first_of, kinds, lists, otherwise, words_of};
+pub use unread::{COMMENT_MARK, OF_IPTABLES, OF_JSON, Place, left_out};
+pub use vocabulary::{
+    Kind, VERDICTS, begins_match, begins_statement, has_constant, kinds, lists, otherwise,
+};

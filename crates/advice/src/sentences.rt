@@ -4,6 +4,8 @@
 //! chosen.
 
 use crate::near::nearest;
+use crate::vocabulary::{constants, name_of, names};
+use nft_tree::ComparedType;
 use std::alloc::{AllocError, Global};
 
 /// What fills a gap of a sentence.
@@ -15,8 +17,11 @@ pub enum Gap<'a> {
     Words(&'a [&'a str]),
     /// The same of words with a blank between two.
     Listed(&'a str),
+    /// The same of the constants of a type.
+    Constants(ComparedType),
+    Type(ComparedType),
     /// The types of the parts of a key, as a . b.
-    Types(&'a [&'a str]),
+    Types(&'a [ComparedType]),
 }
 
 /// The groups of an address.
@@ -25,62 +30,66 @@ const GROUPS: u64 = 4;
 /// What fills a gap that a sentence doesn't have.
 pub const NO_GAP: Gap<'static> = Gap::Text("");
 
-impl Gap<'_> {
+impl<'a> Gap<'a> {
+    /// Its words; none of what has none.
+    fn words(self, alloc: Global) -> Result<Vec<&'a str>, AllocError> {
+        match self {
+            Gap::Words(words) => words.to_vec(alloc),
+            Gap::Listed(words) => words.split(' ').collect(alloc),
+            Gap::Constants(of) => names(alloc, constants(of)),
+            Gap::Text(_) | Gap::Number(_) | Gap::Type(_) | Gap::Types(_) => Ok(Vec::new(alloc)),
+        }
+    }
+
     fn put(self, alloc: Global, lines: &mut String) -> Result<(), AllocError> {
         match self {
             Gap::Text(text) => lines.push_str(text),
             Gap::Number(number) => write!(lines, "{number}"),
-            Gap::Words(words) => put_list(lines, words, "`", ", "),
-            Gap::Listed(words) => put_list(lines, &split(alloc, words)?, "`", ", "),
-            Gap::Types(types) => put_list(lines, types, "", " . "),
+            Gap::Words(_) | Gap::Listed(_) | Gap::Constants(_) => {
+                put_list(lines, &self.words(alloc)?)
+            }
+            Gap::Type(of) => put_type(lines, of),
+            Gap::Types(types) => put_types(lines, types),
         }
     }
 }
 
-/// Words with a blank between two, one by one.
-fn split<'a>(alloc: Global, words: &'a str) -> Result<Vec<&'a str>, AllocError> {
-    let mut all = Vec::new(alloc);
-    for word in words.split(' ') {
-        all.push(word)?;
-    }
-    Ok(all)
-}
-
-/// Writes words in quotes, with a mark between two.
-fn put_list(
-    lines: &mut String,
-    words: &[&str],
-    quote: &str,
-    between: &str,
-) -> Result<(), AllocError> {
+/// Writes words in quotes, with a comma between two.
+fn put_list(lines: &mut String, words: &[&str]) -> Result<(), AllocError> {
     let mut mark = "";
     for word in words {
-        lines.push_str(mark)?;
-        lines.push_str(quote)?;
-        lines.push_str(word)?;
-        lines.push_str(quote)?;
-        mark = between;
+        write!(lines, "{mark}`{word}`")?;
+        mark = ", ";
     }
     Ok(())
 }
 
-/// Words of which one may be meant by the one that was written: names, or words with a blank between two.
+/// Writes types with a dot between two.
+fn put_types(lines: &mut String, types: &[ComparedType]) -> Result<(), AllocError> {
+    let mut mark = "";
+    for of in types {
+        lines.push_str(mark)?;
+        put_type(lines, *of)?;
+        mark = " . ";
+    }
+    Ok(())
+}
+
+/// Writes the name of a type, or its width where it has none.
+fn put_type(lines: &mut String, of: ComparedType) -> Result<(), AllocError> {
+    match of {
+        ComparedType::Named(of) => lines.push_str(name_of(of)),
+        ComparedType::Unnamed(width) => write!(lines, "number of {width} bits"),
+    }
+}
+
+/// Words of which one may be meant by the one that was written.
 #[derive(Clone, Copy)]
 struct Guess<'a> {
     written: &'a str,
-    names: &'a [&'a str],
-    listed: &'a str,
+    words: Gap<'a>,
     /// What is asked where one is near: that one fills the first gap, all of them the second.
     question: &'static str,
-}
-
-impl<'a> Guess<'a> {
-    fn words(self, alloc: Global) -> Result<Vec<&'a str>, AllocError> {
-        if self.listed.is_empty() {
-            return self.names.to_vec(alloc);
-        }
-        split(alloc, self.listed)
-    }
 }
 
 /// What to do: a sentence, with a `{}` in each of its gaps.
@@ -93,43 +102,27 @@ pub struct Advice<'a> {
 }
 
 impl<'a> Advice<'a> {
-    /// The same, unless one of some names is near the one that was written.
+    /// The same, unless one of some words is near the one that was written.
     pub fn unless_near(
         self,
         written: &'a str,
-        names: &'a [&'a str],
+        words: Gap<'a>,
         question: &'static str,
     ) -> Advice<'a> {
-        Advice {
-            guess: Some(Guess {
-                written,
-                names,
-                listed: "",
-                question,
-            }),
-            ..self
-        }
-    }
-
-    /// The same, unless one of some words, with a blank between two, is near the one that was written.
-    pub fn unless_one_of(self, written: &'a str, listed: &'a str) -> Advice<'a> {
-        Advice {
-            guess: Some(Guess {
-                written,
-                names: &[],
-                listed,
-                question: DID_YOU_MEAN_ONE_OF,
-            }),
-            ..self
-        }
+        let guess = Some(Guess {
+            written,
+            words,
+            question,
+        });
+        Advice { guess, ..self }
     }
 
     /// Writes it on a line.
     pub fn put(self, alloc: Global, lines: &mut String) -> Result<(), AllocError> {
         if let Some(guess) = self.guess {
-            let words = guess.words(alloc)?;
+            let words = guess.words.words(alloc)?;
             if let Some(near) = nearest(alloc, guess.written, &words)? {
-                let gaps = [Gap::Text(near), Gap::Words(&words)];
+                let gaps = [Gap::Text(near), guess.words];
                 return put_filled(alloc, lines, guess.question, &gaps);
             }
         }
@@ -201,17 +194,20 @@ pub fn one_of<'a>(words: Gap<'a>) -> Advice<'a> {
     with_words("Expected one of {}.", words)
 }
 
-/// The greatest number of a type.
-pub fn greatest_is<'a>(of: &'a str, most: u64) -> Advice<'a> {
+/// The greatest number of a type, or of something else.
+pub fn greatest_is<'a>(of: Gap<'a>, most: u64) -> Advice<'a> {
     filled(
         "The greatest {} is {}.",
-        [Gap::Text(of), Gap::Number(most), NO_GAP, NO_GAP],
+        [of, Gap::Number(most), NO_GAP, NO_GAP],
     )
 }
 
 /// A type takes no such value, but this.
-pub fn no_value<'a>(of: &'a str, instead: &'a str) -> Advice<'a> {
-    with_texts("This is no {}: write {}.", of, instead)
+pub fn no_value<'a>(of: ComparedType, instead: &'a str) -> Advice<'a> {
+    filled(
+        "This is no {}: write {}.",
+        [Gap::Type(of), Gap::Text(instead), NO_GAP, NO_GAP],
+    )
 }
 
 /// An address has four groups.

@@ -1,55 +1,48 @@
 //! The words of the profile by what they are, and what others write for them.
+use nft_expressions::{Header, Keywords, without_header};
+use nft_tree::{ComparedType, ValueType};
 use std::alloc::{AllocError, Global};
 
-/// Words that stand in one place: what they are, and which, with a blank between two. Those of a type go
-/// by its name.
-struct Kind(&'static str, &'static str);
+/// Words of which one stands in a place.
+#[derive(Clone, Copy)]
+pub enum Kind {
+    /// Words with a blank between two.
+    Listed(&'static str),
+    /// What selectors of two words begin with.
+    Headers,
+    /// Selectors by themselves, or behind a header.
+    Selectors(Keywords),
+    /// The names of the types of keys and data.
+    Types,
+    /// The constants of a type; a number without a name has none.
+    Constants(ComparedType),
+}
 
-static KINDS: [Kind; 29] = [
-    Kind("verdict", "accept drop continue return jump goto"),
-    Kind(
-        "statement",
-        "counter log notrack snat dnat masquerade redirect comment",
-    ),
-    Kind("header", "ip tcp udp th icmp meta ct"),
-    Kind("interface", "iifname oifname iif oif"),
-    Kind("field of ip", "saddr daddr protocol ttl length"),
-    Kind("port", "dport sport flags"),
-    Kind("field of icmp", "type"),
-    Kind("field of meta", "l4proto mark nfproto length"),
-    Kind("field of ct", "state status direction mark"),
-    Kind("ct_state", "new established related invalid untracked"),
-    Kind("ct_status", "seen-reply snat dnat"),
-    Kind("ct_dir", "original reply"),
-    Kind("inet_service", "ssh smtp domain http ntp https"),
-    Kind("inet_proto", "tcp udp icmp igmp gre esp ah sctp ipv6-icmp"),
-    Kind("tcp_flag", "fin syn rst psh ack urg ecn cwr"),
-    Kind(
-        "icmp_type",
-        "echo-request echo-reply destination-unreachable source-quench redirect router-advertisement router-solicitation time-exceeded parameter-problem timestamp-request timestamp-reply info-request info-reply address-mask-request address-mask-reply",
-    ),
-    Kind("nf_proto", "ipv4 ipv6"),
-    Kind("map", "vmap map"),
-    Kind("mark", "set"),
-    Kind("type of a chain", "filter nat"),
-    Kind("hook", "prerouting input forward output postrouting"),
-    Kind("priority", "raw mangle dstnat filter security srcnat"),
-    Kind("policy", "accept drop"),
-    Kind("part of a head", "type hook priority policy"),
-    Kind(
-        "type",
-        "ipv4_addr inet_service inet_proto ifname iface_index mark icmp_type tcp_flag nf_proto ct_state ct_dir ct_status verdict",
-    ),
-    Kind(
-        "field of a set",
-        "type typeof elements flags size auto-merge comment",
-    ),
-    Kind("flag of a set", "interval constant"),
-    Kind("declaration", "chain set map"),
-    Kind(
-        "table",
-        "table inet ip prefix packets bytes to flush ruleset",
-    ),
+/// The words that begin a verdict, with a blank between two.
+pub const VERDICTS: &str = "accept drop continue return jump goto";
+
+/// Those that begin another statement than a match.
+const STATEMENTS: &str = "counter log notrack snat dnat masquerade redirect comment";
+
+/// The kinds of words that stand in no table of the language, with a blank between two.
+static LISTED: [&str; 14] = [
+    VERDICTS,
+    STATEMENTS,
+    "vmap map",
+    "set",
+    // The types of chains, hooks, priorities and policies, and what stands before each.
+    "filter nat",
+    "prerouting input forward output postrouting",
+    "raw mangle dstnat filter security srcnat",
+    "accept drop",
+    "type hook priority policy",
+    // What stands for a type where the data of a map are verdicts.
+    "verdict",
+    // The fields of a set, and its flags.
+    "type typeof elements flags size auto-merge comment",
+    "interval constant",
+    "chain set map",
+    "table inet ip prefix packets bytes to flush ruleset",
 ];
 
 /// Words here, and what other firewalls and habit write for each, with a blank between two.
@@ -85,38 +78,91 @@ static OTHERWISE: [(&str, &str); 29] = [
     ("ipv6-icmp", "icmpv6"),
 ];
 
-/// The words of each kind. Which of them may stand at a place is asked of the parser.
-pub fn kinds(alloc: Global) -> Result<Vec<&'static str>, AllocError> {
+impl Kind {
+    /// The words; none of a type without constants.
+    ///
+    /// # Errors
+    /// `AllocError` for want of memory.
+    pub fn words(self, alloc: Global) -> Result<Vec<&'static str>, AllocError> {
+        match self {
+            Kind::Listed(words) => words.split(' ').collect(alloc),
+            Kind::Headers => names(alloc, Header::with_names()),
+            Kind::Selectors(keywords) => names(alloc, keywords),
+            Kind::Types => names(alloc, ValueType::with_names()),
+            Kind::Constants(of) => names(alloc, constants(of)),
+        }
+    }
+}
+
+/// The kinds of words. Which of them may stand at a place is asked of the parser.
+///
+/// # Errors
+/// `AllocError` for want of memory.
+pub fn kinds(alloc: Global) -> Result<Vec<Kind>, AllocError> {
+    let (headers, types) = (Header::with_names().iter(), ValueType::with_names().iter());
+    let mut all: Vec<Kind> = LISTED
+        .iter()
+        .map(|words| Kind::Listed(*words))
+        .collect(alloc)?;
+    all.extend([
+        Kind::Headers,
+        Kind::Selectors(without_header()),
+        Kind::Types,
+    ])?;
+    all.extend(headers.map(|row| Kind::Selectors(row.1.keywords())))?;
+    all.extend(types.map(|row| Kind::Constants(ComparedType::Named(row.1))))?;
+    Ok(all)
+}
+
+/// The constants of a type, each with its number.
+pub(crate) fn constants(of: ComparedType) -> &'static [(&'static [u8], u32)] {
+    match of {
+        ComparedType::Named(of) => of.words(),
+        ComparedType::Unnamed(_) => &[],
+    }
+}
+
+/// Whether a word is a constant of a type.
+pub fn has_constant(of: ComparedType, word: &str) -> bool {
+    is_name(constants(of), word)
+}
+
+/// Whether a word begins a match.
+pub fn begins_match(word: &str) -> bool {
+    is_name(Header::with_names(), word) || is_name(without_header(), word)
+}
+
+/// Whether a word begins a statement or a match.
+pub fn begins_statement(word: &str) -> bool {
+    lists(VERDICTS, word) || lists(STATEMENTS, word) || begins_match(word)
+}
+
+/// The name of a type.
+pub(crate) fn name_of(of: ValueType) -> &'static str {
+    let named = ValueType::with_names().iter().find(|row| row.1 == of);
+    named.map_or("", |row| str::from_utf8(row.0).unwrap_or(""))
+}
+
+/// The names in a table, which are ASCII.
+pub(crate) fn names<'a, T>(
+    alloc: Global,
+    table: &[(&'static [u8], T)],
+) -> Result<Vec<&'a str>, AllocError> {
     let mut all = Vec::new(alloc);
-    for Kind(_, words) in &KINDS {
-        all.push(*words)?;
+    for row in table {
+        all.push(str::from_utf8(row.0).unwrap_or(""))?;
     }
     Ok(all)
 }
 
-/// The words of a kind; empty where no kind has this name.
-pub fn words_of(name: &str) -> &'static str {
-    for Kind(other, words) in &KINDS {
-        if *other == name {
-            return *words;
-        }
-    }
-    ""
-}
-
-/// The first of some words, with a blank between two.
-pub fn first_of(words: &'static str) -> &'static str {
-    words.split(' ').next().unwrap_or("")
+/// Whether a word is one of the names in a table.
+fn is_name<T>(table: &[(&'static [u8], T)], word: &str) -> bool {
+    table.iter().any(|row| row.0 == word.as_bytes())
 }
 
 /// Whether a word is one of those with a blank between two.
 pub fn lists(words: &str, word: &str) -> bool {
-    for other in words.split(' ') {
-        if other == word {
-            return true;
-        }
-    }
-    false
+    words.split(' ').any(|other| other == word)
 }
 
 /// Words of the profile, each with those that other firewalls and habit write for it.

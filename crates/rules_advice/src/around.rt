@@ -1,6 +1,6 @@
 //! What is around a fault of a ruleset.
 use crate::names::{Declared, Kind, declared_around, declared_in};
-use fault_places::{Level, Words, holds, part_around, rest_from, spans};
+use fault_places::{Level, Words, bytes_of, holds, part_around, rest_from, spans, up_to};
 use std::alloc::{AllocError, Global};
 
 /// A fault at an offset of a ruleset, and what is around it.
@@ -14,7 +14,9 @@ pub struct Around<'a> {
     pub inside: Option<Declared<'a>>,
     /// Whether it is in a rule.
     pub is_in_rule: bool,
-    /// The words of the rule around it, or else of the declaration.
+    /// The bytes of the rule around it, or else of the declaration, up to it.
+    pub start: &'a [u8],
+    /// The words of the rule or the declaration.
     pub words: Words<'a>,
     /// The number of the word at it.
     pub at: usize,
@@ -39,6 +41,7 @@ impl<'a> Around<'a> {
             declared,
             inside,
             is_in_rule: rule.is_some(),
+            start: bytes_of(text, up_to(part, offset)),
             words,
             at,
         })
@@ -73,14 +76,8 @@ impl<'a> Around<'a> {
 
     /// The set or map of a name.
     fn set_named(&self, name: &str) -> Option<Declared<'a>> {
-        for item in &self.declared {
-            if matches!(item.kind, Kind::Set | Kind::Map)
-                && self.is_beside(*item)
-                && item.name == name
-            {
-                return Some(*item);
-            }
-        }
-        None
+        self.declared.iter().copied().find(|item| {
+            matches!(item.kind, Kind::Set | Kind::Map) && self.is_beside(*item) && item.name == name
+        })
     }
 }

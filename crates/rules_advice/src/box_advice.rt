@@ -1,7 +1,7 @@
 //! What to do about a fault of a box file.
 use crate::name_advice::known_names;
 use crate::names::interfaces;
-use advice::{Advice, DID_YOU_MEAN_ONE_OF, fixed};
+use advice::{Advice, DID_YOU_MEAN_ONE_OF, Gap, fixed};
 use box_file::BoxFault;
 use fault_places::{Span, shown};
 use std::alloc::{AllocError, Global};
@@ -53,9 +53,10 @@ fn form_advice<'a>(first: &'a str) -> Advice<'a> {
 
 /// What to do about a line that begins with a word that no line begins with.
 fn unknown_line<'a>(first: &'a str) -> Advice<'a> {
-    fixed("A line begins with `interface`, `route`, `default` or `idle`.").unless_one_of(
+    fixed("A line begins with `interface`, `route`, `default` or `idle`.").unless_near(
         first,
-        "interface route default idle",
+        Gap::Listed("interface route default idle"),
+        DID_YOU_MEAN_ONE_OF,
     )
 }
 
@@ -65,7 +66,7 @@ fn name_advice<'a>(line: &'a str, names: &'a [&'a str]) -> Advice<'a> {
     let _kind = fields.next();
     known_names("Interfaces of the box", names).unless_near(
         fields.last().unwrap_or(""),
-        names,
+        Gap::Words(names),
         DID_YOU_MEAN_ONE_OF,
     )
 }

@@ -7,12 +7,9 @@ use crate::type_advice::type_advice;
 use crate::types::Types;
 use crate::unread_words::put_unread;
 use crate::value_advice::value_advice;
-use advice::{Advice, fixed, greatest_is, lists, with_text, with_texts};
+use advice::{Advice, Gap, begins_match, fixed, greatest_is, lists, with_text, with_texts};
 use rule_check::CheckFault;
 use std::alloc::{AllocError, Global};
-
-/// The words that begin a match.
-const MATCHES: &str = "ip tcp udp th icmp meta ct iifname oifname iif oif";
 
 /// Writes what to do about a fault at an offset of a ruleset that can be parsed, if it is known.
 ///
@@ -89,16 +86,13 @@ fn sentence_of(fault: CheckFault) -> &'static str {
 
 /// The chain in which a NAT statement has its place.
 fn nat<'a>(around: &Around<'a>) -> Option<Advice<'a>> {
-    for number in 0..around.words.len() {
-        let statement = around.words.get(number);
-        let head = match statement {
-            "snat" | "masquerade" => "type nat hook postrouting priority srcnat;",
-            "dnat" | "redirect" => "type nat hook prerouting priority dstnat;",
-            _ => continue,
-        };
-        return Some(with_texts("`{}` goes into a chain with `{}`.", statement, head));
-    }
-    None
+    let mut words = (0..around.words.len()).map(|number| around.words.get(number));
+    let statement = words.find(|word| lists("snat masquerade dnat redirect", word))?;
+    let head = match statement {
+        "snat" | "masquerade" => "type nat hook postrouting priority srcnat;",
+        _ => "type nat hook prerouting priority dstnat;",
+    };
+    Some(with_texts("`{}` goes into a chain with `{}`.", statement, head))
 }
 
 /// What to do about what stands behind the first statement that ends its rule.
@@ -125,7 +119,7 @@ fn surplus_advice<'a>(around: &Around<'a>, end: &'a str, number: usize) -> Advic
     if !moved.is_empty() {
         return with_texts("Write `{}` before `{}`, which ends the rule.", moved, end);
     }
-    let instead = if lists(MATCHES, word) {
+    let instead = if begins_match(word) {
         "begin another one behind it, on a new line"
     } else {
         "take out what stands behind it"
@@ -144,7 +138,7 @@ fn moved_before<'a>(around: &Around<'a>, word: &'a str) -> &'a str {
 
 fn too_large<'a>(around: &Around<'a>) -> Advice<'a> {
     if lists("packets bytes", around.before(1)) {
-        return greatest_is("start of a counter", 4_611_686_018_427_387_904);
+        return greatest_is(Gap::Text("start of a counter"), 4_611_686_018_427_387_904);
     }
     fixed("A ruleset has at most 16,384 rules and 65,536 elements.")
 }

@@ -23,13 +23,13 @@ pub fn names_wanted<'a>(
     if matches!(fault, CheckFault::NoSuchInterface) {
         return interfaces(alloc, plant);
     }
-    let mut names = Vec::new(alloc);
-    for item in &around.declared {
-        if around.is_beside(*item) && is_wanted(around, *item, fault) {
-            names.push(item.name)?;
-        }
-    }
-    Ok(names)
+    around
+        .declared
+        .iter()
+        .copied()
+        .filter(|item| around.is_beside(*item) && is_wanted(around, *item, fault))
+        .map(|item| item.name)
+        .collect(alloc)
 }
 
 /// Whether the name of a chain, a set or a map could stand at the place of a fault.
@@ -57,30 +57,29 @@ pub fn duplicate_advice<'a>(around: &Around<'a>) -> Option<Advice<'a>> {
 
 /// Where the declaration begins that has the same name before one.
 fn first_of_name(around: &Around<'_>, second: Declared<'_>) -> Option<usize> {
-    for item in &around.declared {
+    let first = around.declared.iter().copied().find(|item| {
         let is_near = matches!(item.kind, Kind::Table) || around.is_beside(*item);
-        if is_near && item.is_alike(second) && item.part.start < second.part.start {
-            return Some(item.part.start);
-        }
-    }
-    None
+        is_near && item.is_alike(second) && item.part.start < second.part.start
+    })?;
+    Some(first.part.start)
 }
 
 /// The chain of these that may be meant.
 pub fn chain_advice<'a>(around: &Around<'a>, names: &'a [&'a str]) -> Advice<'a> {
-    no_chain(around, names).unless_near(around.here(), names, DID_YOU_MEAN)
+    no_chain(around, names).unless_near(around.here(), Gap::Words(names), DID_YOU_MEAN)
 }
 
 /// What to do about the name of a chain that isn't one of these.
 fn no_chain<'a>(around: &Around<'a>, names: &'a [&'a str]) -> Advice<'a> {
     let here = around.here();
-    for item in &around.declared {
-        if matches!(item.kind, Kind::Chain | Kind::BaseChain) && item.name == here {
-            return with_text(
-                "`{}` is a chain of another table: copy it into this one.",
-                here,
-            );
-        }
+    let is_elsewhere = around.declared.iter().any(|item| {
+        matches!(item.kind, Kind::Chain | Kind::BaseChain) && item.name == here
+    });
+    if is_elsewhere {
+        return with_text(
+            "`{}` is a chain of another table: copy it into this one.",
+            here,
+        );
     }
     if names.is_empty() {
         return fixed(
@@ -92,7 +91,7 @@ fn no_chain<'a>(around: &Around<'a>, names: &'a [&'a str]) -> Advice<'a> {
 
 /// The one of these sets and maps that may be meant.
 pub fn set_advice<'a>(around: &Around<'a>, names: &'a [&'a str]) -> Advice<'a> {
-    no_set(names).unless_near(around.here(), names, "Did you mean `@{}`?")
+    no_set(names).unless_near(around.here(), Gap::Words(names), "Did you mean `@{}`?")
 }
 
 /// What to do about the name of a set or a map that isn't one of these.
@@ -123,19 +122,16 @@ pub fn interface_advice<'a>(around: &Around<'a>, names: &'a [&'a str]) -> Advice
         ),
         None => known_names("Interfaces of the box", names),
     };
-    unknown.unless_near(name, names, DID_YOU_MEAN_ONE_OF)
+    unknown.unless_near(name, Gap::Words(names), DID_YOU_MEAN_ONE_OF)
 }
 
 /// The selector of interfaces by their index before the name of one.
 fn selector_before<'a>(around: &Around<'a>) -> Option<&'a str> {
-    let is_name = around.here().parse::<u64>().is_err();
-    for places in 1..around.at.saturating_add(1) {
-        let word = around.before(places);
-        if is_name && lists("iif oif", word) {
-            return Some(word);
-        }
+    if around.here().parse::<u64>().is_ok() {
+        return None;
     }
-    None
+    let mut before = (1..around.at.saturating_add(1)).map(|places| around.before(places));
+    before.find(|word| lists("iif oif", word))
 }
 
 /// The names of a kind, up to some number.
@@ -149,8 +145,6 @@ fn known<'a>(names: &'a [&'a str]) -> Gap<'a> {
 
 /// A word without the quotes around it.
 pub fn unquoted(word: &str) -> &str {
-    match word.strip_prefix("\"") {
-        Some(rest) => rest.strip_suffix("\"").unwrap_or(word),
-        None => word,
-    }
+    let rest = word.strip_prefix("\"").unwrap_or("");
+    rest.strip_suffix("\"").unwrap_or(word)
 }

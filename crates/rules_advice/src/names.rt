@@ -84,12 +84,9 @@ pub fn declared_around<'a>(
     offset: usize,
     is_table: bool,
 ) -> Option<Declared<'a>> {
-    for item in declared {
-        if matches!(item.kind, Kind::Table) == is_table && holds(item.part, offset) {
-            return Some(*item);
-        }
-    }
-    None
+    declared.iter().copied().find(|item| {
+        matches!(item.kind, Kind::Table) == is_table && holds(item.part, offset)
+    })
 }
 
 /// The names of a box's interfaces.

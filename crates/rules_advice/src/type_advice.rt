@@ -1,17 +1,19 @@
 //! What to do about types that don't fit.
 use crate::around::Around;
 use crate::names::{Declared, Kind};
-use crate::types::{Type, Types, values_of};
+use crate::types::{Types, values_of};
 use advice::{
-    Advice, Gap, NO_GAP, filled, fixed, groups_advice, lists, no_value, one_of, with_text, words_of,
+    Advice, DID_YOU_MEAN_ONE_OF, Gap, NO_GAP, VERDICTS, filled, fixed, groups_advice, lists,
+    no_value, one_of, with_text, with_words,
 };
+use nft_tree::ComparedType;
 
 /// What to do about types that don't fit, if it is known.
 pub fn type_advice<'a>(around: &Around<'a>, types: &'a Types) -> Option<Advice<'a>> {
     let set = around.set();
     match set {
         _ if around.before(1) == "@" => advice_on_set(around, set?, types),
-        Some(_) => groups_advice(around.here()).or(advice_on_element(around, types)),
+        Some(set) => groups_advice(around.here()).or(advice_on_element(around, set, types)),
         None => groups_advice(around.here()).or(advice_on_rule(around, types)),
     }
 }
@@ -31,7 +33,7 @@ fn advice_on_set<'a>(
             "`@{}` is a map: write `vmap` or `map` before it, or name a set.",
             set.name,
         )),
-        _ if types.compared == types.keys => advice_on_data(around, set.name, types),
+        _ if types.compared == types.keys => Some(advice_on_data(around, set.name, types)),
         _ => Some(other_keys(set.name, types)),
     }
 }
@@ -40,12 +42,12 @@ fn advice_on_set<'a>(
 fn other_keys<'a>(name: &'a str, types: &'a Types) -> Advice<'a> {
     let (compared, keys) = (Gap::Types(&types.compared), Gap::Types(&types.keys));
     match (types.compared.as_slice(), types.keys.as_slice()) {
-        ([of], [key]) if !is_number(*of) => filled(
+        ([ComparedType::Named(_)], [key]) => filled(
             "The keys of `@{}` are {}: compare {} with it, or declare another set, of `type {}`.",
             [
                 Gap::Text(name),
                 keys,
-                Gap::Text(values_of(*key).1),
+                Gap::Text(values_of(*key).selectors),
                 compared,
             ],
         ),
@@ -56,13 +58,8 @@ fn other_keys<'a>(name: &'a str, types: &'a Types) -> Advice<'a> {
     }
 }
 
-/// Whether a type is a number without a name.
-fn is_number(of: Type) -> bool {
-    of.starts_with("number")
-}
-
 /// What to do about the data of a map of this name.
-fn advice_on_data<'a>(around: &Around<'a>, name: &'a str, types: &Types) -> Option<Advice<'a>> {
+fn advice_on_data<'a>(around: &Around<'a>, name: &'a str, types: &Types) -> Advice<'a> {
     let wanted = if around.before(2) == "vmap" {
         "verdict"
     } else if around.words.has_before(around.at, "to") {
@@ -70,28 +67,32 @@ fn advice_on_data<'a>(around: &Around<'a>, name: &'a str, types: &Types) -> Opti
     } else {
         "mark"
     };
-    let (name, data) = (Gap::Text(name), Gap::Text(types.data?));
-    Some(filled(
+    let data = match types.data {
+        Some(data) => Gap::Type(data),
+        None => Gap::Text("verdict"),
+    };
+    filled(
         "The data of `@{}` are {}: {} is wanted.",
-        [name, data, Gap::Text(wanted), NO_GAP],
-    ))
+        [Gap::Text(name), data, Gap::Text(wanted), NO_GAP],
+    )
 }
 
 /// What to do about an element of a set or a map.
-fn advice_on_element<'a>(around: &Around<'a>, types: &Types) -> Option<Advice<'a>> {
-    let Some(data) = types.data else {
-        return advice_on_parts(around, types.keys.len());
-    };
-    Some(if data == "verdict" {
-        verdict_advice(around)
-    } else {
-        advice_on_datum(around, data)
-    })
+fn advice_on_element<'a>(
+    around: &Around<'a>,
+    set: Declared<'a>,
+    types: &Types,
+) -> Option<Advice<'a>> {
+    match (set.kind, types.data) {
+        (Kind::Map, Some(data)) => Some(advice_on_datum(around, data)),
+        (Kind::Map, None) => Some(verdict_advice(around)),
+        _ => advice_on_parts(around, types.keys.len()),
+    }
 }
 
 /// What to do about the data of an element, which are to be of a type.
-fn advice_on_datum<'a>(around: &Around<'a>, data: Type) -> Advice<'a> {
-    if lists(words_of("verdict"), around.here()) {
+fn advice_on_datum<'a>(around: &Around<'a>, data: ComparedType) -> Advice<'a> {
+    if lists(VERDICTS, around.here()) {
         return no_value(data, "`: verdict` in the type for verdicts");
     }
     if around.before(1) == ":" {
@@ -102,14 +103,12 @@ fn advice_on_datum<'a>(around: &Around<'a>, data: Type) -> Advice<'a> {
 
 /// What to do about an element of a set whose type has so many parts.
 fn advice_on_parts<'a>(around: &Around<'a>, of_type: usize) -> Option<Advice<'a>> {
-    let mut of_element = 1usize;
-    for number in around.at..around.words.len() {
-        match around.words.get(number) {
-            "," | "}" | ":" | "comment" => break,
-            "." => of_element = of_element.saturating_add(1),
-            _ => {}
-        }
-    }
+    let rest = (around.at..around.words.len()).map(|number| around.words.get(number));
+    let element = rest.take_while(|word| !lists(", } : comment", word));
+    let of_element = element
+        .filter(|word| *word == ".")
+        .count()
+        .saturating_add(1);
     if of_element == of_type {
         return None;
     }
@@ -122,8 +121,8 @@ fn advice_on_parts<'a>(around: &Around<'a>, of_type: usize) -> Option<Advice<'a>
 
 /// The verdict that may be meant.
 fn verdict_advice<'a>(around: &Around<'a>) -> Advice<'a> {
-    let verdicts = words_of("verdict");
-    one_of(Gap::Listed(verdicts)).unless_one_of(around.here(), verdicts)
+    let verdicts = Gap::Listed(VERDICTS);
+    one_of(verdicts).unless_near(around.here(), verdicts, DID_YOU_MEAN_ONE_OF)
 }
 
 /// What to do about a rule that names no set.
@@ -137,25 +136,14 @@ fn advice_on_rule<'a>(around: &Around<'a>, types: &Types) -> Option<Advice<'a>> 
         ));
     }
     let of = types.compared.last().copied()?;
-    if is_ordered(of) && has_order(around) {
+    let by_order = (0..around.at).any(|number| lists("< > <= >=", around.words.get(number)));
+    if by_order && values_of(of).have_order {
         return Some(fixed(
             "An order compares with one value: write `==` before a range or a prefix.",
         ));
     }
-    Some(with_text("{} has no order: compare with `==`, `!=` or a set.", of))
-}
-
-/// Whether the values of a type have an order.
-fn is_ordered(of: Type) -> bool {
-    lists("ipv4_addr inet_service mark", of) || is_number(of)
-}
-
-/// Whether a rule compares by an order up to the place.
-fn has_order(around: &Around<'_>) -> bool {
-    for number in 0..around.at {
-        if lists("< > <= >=", around.words.get(number)) {
-            return true;
-        }
-    }
-    false
+    Some(with_words(
+        "{} has no order: compare with `==`, `!=` or a set.",
+        Gap::Type(of),
+    ))
 }

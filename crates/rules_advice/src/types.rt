@@ -1,198 +1,137 @@
-//! The types of what is compared, read off the words of a rule or a set.
+//! The types of what is compared, read off the tokens of a rule or a set.
 use crate::around::Around;
-use advice::{lists, words_of};
-use fault_places::Words;
+use fault_places::bytes_of;
+use nft_expressions::selectors;
+use nft_lexer::{Token, lex};
+use nft_rulesets::{MapTypes, SetTypes};
+use nft_tree::{ComparedType, Value, ValueType};
+use nft_values::is_value;
 use std::alloc::{AllocError, Global};
+use token_reader::Production;
 
-/// A type, by its name; what has no name goes by its width.
-pub type Type = &'static str;
-
-pub const BYTE: Type = "number of 8 bits";
-
-pub const SHORT: Type = "number of 16 bits";
-
-pub const LONG: Type = "number of 32 bits";
-
-/// The types that have selectors: those of one word, and those of two, by what they begin with; the words
-/// with a blank between two.
-static SELECTORS: [(Type, &str, &str); 18] = [
-    ("ipv4_addr", "ip", "saddr daddr"),
-    ("inet_proto", "ip", "protocol"),
-    (BYTE, "ip", "ttl"),
-    (SHORT, "ip", "length"),
-    ("inet_service", "tcp udp th", "sport dport"),
-    ("tcp_flag", "tcp", "flags"),
-    ("icmp_type", "icmp", "type"),
-    ("inet_proto", "meta", "l4proto"),
-    (LONG, "meta", "length"),
-    ("mark", "meta ct", "mark"),
-    ("nf_proto", "meta", "nfproto"),
-    ("ifname", "meta", "iifname oifname"),
-    ("iface_index", "meta", "iif oif"),
-    ("ifname", "iifname oifname", ""),
-    ("iface_index", "iif oif", ""),
-    ("ct_state", "ct", "state"),
-    ("ct_dir", "ct", "direction"),
-    ("ct_status", "ct", "status"),
-];
-
-/// The words of which one stands behind the types of a set.
-const ENDS: &str = "; } flags elements size auto-merge comment";
-
-/// What the values of a type are, and with what they are compared.
-const VALUES: &str = "\
-ipv4_addr|an address, as `192.0.2.1`|`ip saddr` or `ip daddr`
-inet_service|a port from 0 to 65535|`tcp dport` or `udp dport`
-inet_proto|a protocol, as `tcp`|`meta l4proto`
-ifname|an interface's name|`iifname` or `oifname`
-iface_index|an interface of the box|`iif` or `oif`
-tcp_flag|a flag, as `syn`|`tcp flags`
-icmp_type|a type of ICMP, as `echo-request`|`icmp type`
-nf_proto|`ipv4` or `ipv6`|`meta nfproto`
-ct_state|a state, as `new`|`ct state`
-ct_dir|`original` or `reply`|`ct direction`
-ct_status|a status, as `dnat`|`ct status`";
-
-/// What the values of a type are, and with what they are compared.
-pub fn values_of(of: Type) -> (&'static str, &'static str) {
-    for row in VALUES.split('\n') {
-        let mut cells = row.split('|');
-        if cells.next().unwrap_or("") == of {
-            return (cells.next().unwrap_or(""), cells.next().unwrap_or(""));
-        }
-    }
-    ("a number", "`meta mark` or `ct mark`")
+/// What is told of the values of a type.
+#[derive(Clone, Copy)]
+pub struct Values {
+    /// What they are, as `a number`.
+    pub are: &'static str,
+    /// With what they are compared.
+    pub selectors: &'static str,
+    pub have_order: bool,
 }
 
-/// The greatest numbers of the types whose values are numbers.
-static GREATEST: [(Type, u64); 11] = [
-    ("inet_service", 65_535),
-    (SHORT, 65_535),
-    ("inet_proto", 255),
-    ("tcp_flag", 255),
-    ("icmp_type", 255),
-    ("nf_proto", 255),
-    ("ct_dir", 255),
-    (BYTE, 255),
-    ("mark", 4_294_967_295),
-    ("iface_index", 4_294_967_295),
-    (LONG, 4_294_967_295),
-];
+/// What is told of the values of a type.
+pub fn values_of(of: ComparedType) -> Values {
+    let of = match of {
+        ComparedType::Named(of) => of,
+        // A number, too.
+        ComparedType::Unnamed(_) => ValueType::Mark,
+    };
+    let (are, selectors, have_order) = match of {
+        ValueType::Address => (
+            "an address, as `192.0.2.1`",
+            "`ip saddr` or `ip daddr`",
+            true,
+        ),
+        ValueType::Service => ("a port from 0 to 65535", "`tcp dport` or `udp dport`", true),
+        ValueType::Protocol => ("a protocol, as `tcp`", "`meta l4proto`", false),
+        ValueType::InterfaceName => ("an interface's name", "`iifname` or `oifname`", false),
+        ValueType::InterfaceIndex => ("an interface of the box", "`iif` or `oif`", false),
+        ValueType::Mark => ("a number", "`meta mark` or `ct mark`", true),
+        ValueType::TcpFlag => ("a flag, as `syn`", "`tcp flags`", false),
+        ValueType::IcmpType => ("a type of ICMP, as `echo-request`", "`icmp type`", false),
+        ValueType::Family => ("`ipv4` or `ipv6`", "`meta nfproto`", false),
+        ValueType::CtState => ("a state, as `new`", "`ct state`", false),
+        ValueType::CtDirection => ("`original` or `reply`", "`ct direction`", false),
+        ValueType::CtStatus => ("a status, as `dnat`", "`ct status`", false),
+    };
+    Values {
+        are,
+        selectors,
+        have_order,
+    }
+}
 
 /// The greatest number of a type; none where numbers aren't its values.
-pub fn greatest(of: Type) -> Option<u64> {
-    for (known, most) in &GREATEST {
-        if *known == of {
-            return Some(*most);
-        }
+pub fn greatest(of: ComparedType) -> Option<u64> {
+    if !is_value(of, &Value::Number(0)) {
+        return None;
     }
-    None
-}
-
-/// The type of the selector that begins at a word.
-fn type_at(words: &Words<'_>, number: usize) -> Option<Type> {
-    let (word, next) = (words.get(number), words.get(number.saturating_add(1)));
-    let is_behind_meta = words.before(number, 1) == "meta";
-    for (of, first, second) in &SELECTORS {
-        let is_whole = if second.is_empty() {
-            !is_behind_meta
-        } else {
-            lists(second, next)
-        };
-        if is_whole && lists(first, word) {
-            return Some(*of);
-        }
-    }
-    None
+    1u64.checked_shl(of.width())?.checked_sub(1)
 }
 
 /// The types at a place.
 #[derive(Drop)]
 pub struct Types {
     /// Of the selectors that were read last before it, joined by dots.
-    pub compared: Vec<Type>,
-    /// Of the set or the map there: of the parts of its key, and of a map's data. None where they
-    /// aren't found.
-    pub keys: Vec<Type>,
-    pub data: Option<Type>,
+    pub compared: Vec<ComparedType>,
+    /// Of the parts of the key of the set or the map there; none where there is neither.
+    pub keys: Vec<ComparedType>,
+    /// Of the map's data there, if they are no verdicts.
+    pub data: Option<ComparedType>,
 }
 
 impl Types {
     /// The types at a place.
+    ///
+    /// # Errors
+    /// `AllocError` for want of memory.
     pub fn at(alloc: Global, around: &Around<'_>) -> Result<Types, AllocError> {
         let mut types = Types {
-            compared: compared_types(alloc, around)?,
+            compared: compared_types(alloc, around.start)?,
             keys: Vec::new(alloc),
             data: None,
         };
         if let Some(set) = around.set() {
-            types.read(&Words::of(alloc, around.text, set.part)?)?;
+            types.read(alloc, bytes_of(around.text, set.part))?;
         }
         Ok(types)
     }
 
-    /// Reads the types that the words of a set or a map declare.
-    fn read(&mut self, words: &Words<'_>) -> Result<(), AllocError> {
-        let (first, by_selectors) = first_of_types(words);
-        let mut is_data = false;
-        for number in first..words.len() {
-            let word = words.get(number);
-            is_data = is_data || word == ":";
-            match declared_type(words, number, by_selectors) {
-                Some(data) if is_data => {
-                    self.data = Some(data);
-                    break;
-                }
-                Some(key) => self.keys.push(key)?,
-                None if lists(ENDS, word) => break,
-                None => {}
+    /// Reads the types that a set or a map declares.
+    fn read(&mut self, alloc: Global, declaration: &[u8]) -> Result<(), AllocError> {
+        let Ok(tokens) = lex(alloc, declaration) else {
+            return Ok(());
+        };
+        if let Some(types) = first_of::<SetTypes>(alloc, &tokens)? {
+            for part in 0..types.parts() {
+                self.keys.extend(types.kind(part))?;
             }
+        }
+        if let Some(types) = first_of::<MapTypes>(alloc, &tokens)? {
+            self.data = types.data();
         }
         Ok(())
     }
 }
 
-/// The types of the selectors that were read last before a place, joined by dots.
-fn compared_types(alloc: Global, around: &Around<'_>) -> Result<Vec<Type>, AllocError> {
+/// The types of the last selectors of a rule's start, joined by dots.
+fn compared_types(alloc: Global, start: &[u8]) -> Result<Vec<ComparedType>, AllocError> {
     let mut types = Vec::new(alloc);
-    for number in 0..around.at {
-        if let Some(found) = type_at(&around.words, number) {
-            if around.words.before(number, 1) != "." {
-                types.clear();
-            }
-            types.push(found)?;
+    let Ok(tokens) = lex(alloc, start) else {
+        return Ok(types);
+    };
+    let mut end = 0;
+    for at in 0..tokens.len() {
+        if at < end {
+            continue;
+        }
+        if let Some((found, after)) = selectors(alloc, &tokens, at)? {
+            types = found.iter().map(|selector| selector.kind()).collect(alloc)?;
+            end = after;
         }
     }
     Ok(types)
 }
 
-/// The type that a word of a declaration says: by a selector, or by its name.
-fn declared_type(words: &Words<'_>, number: usize, by_selectors: bool) -> Option<Type> {
-    let word = words.get(number);
-    if by_selectors && word != "verdict" {
-        return type_at(words, number);
-    }
-    named(word)
-}
-
-/// The number of the first word of a set's types, and whether they go by selectors.
-fn first_of_types(words: &Words<'_>) -> (usize, bool) {
-    let all = words.len();
-    if let Some(before) = words.find_before(all, "typeof") {
-        return (before.saturating_add(1), true);
-    }
-    match words.find_before(all, "type") {
-        Some(before) => (before.saturating_add(1), false),
-        None => (all, false),
-    }
-}
-
-/// The type of a name.
-fn named(name: &str) -> Option<Type> {
-    for known in words_of("type").split(' ') {
-        if known == name {
-            return Some(known);
+/// The first part of some tokens that is one of a production.
+fn first_of<P: Production>(
+    alloc: Global,
+    tokens: &[Token<'_>],
+) -> Result<Option<P::Item>, AllocError> {
+    for at in 0..tokens.len() {
+        if let Some((found, _)) = P::read(alloc, tokens, at)? {
+            return Ok(Some(found));
         }
     }
-    None
+    Ok(None)
 }

@@ -1,106 +1,75 @@
 //! What to do about several words of a list that its type doesn't have.
 use crate::around::Around;
-use crate::types::{Type, Types};
-use crate::value_advice::instead_of;
-use advice::{lists, nearest, words_of};
+use crate::types::Types;
+use crate::value_advice::{SERVICE, instead_of};
+use advice::{Kind, nearest};
+use nft_tree::ComparedType;
 use std::alloc::{AllocError, Global};
 
-/// Words of a list that its type doesn't have, each with what may be meant; empty where that isn't known.
-#[derive(Drop)]
-struct Unread<'a> {
-    /// Words that are near one of the type.
-    near: Vec<(&'a str, &'static str)>,
-    others: Vec<(&'a str, &'static str)>,
-}
-
-/// Writes which words of the list around a place its type doesn't have, the near ones first, if there
-/// are several; whether there are.
+/// Writes which words of the list around a place its type doesn't have, if there are several; whether
+/// there are.
 pub fn put_unread(
     alloc: Global,
     around: &Around<'_>,
     types: &Types,
     lines: &mut String,
 ) -> Result<bool, AllocError> {
-    let compared = if around.set().is_some() {
-        &types.keys
-    } else {
-        &types.compared
+    let compared = match around.set() {
+        Some(_) => types.keys.as_slice(),
+        None => types.compared.as_slice(),
     };
-    let of = compared.first().copied().unwrap_or("");
-    let unread = unread_words(alloc, around, of)?;
-    let count = unread.near.len().saturating_add(unread.others.len());
-    if count < 2 || compared.len() > 1 {
+    let [of] = compared else {
+        return Ok(false);
+    };
+    let unread = unread_words(alloc, around, *of)?;
+    if unread.len() < 2 {
         return Ok(false);
     }
-    put_words(&unread.near, of, "Not read: ", lines)?;
-    let mark = if unread.near.is_empty() {
-        "Not read: "
-    } else {
-        ", "
-    };
-    put_words(&unread.others, of, mark, lines)?;
-    lines.push_str(".\n")?;
-    Ok(true)
-}
-
-/// Writes words that a type doesn't list, and what may be meant by each, behind a mark.
-fn put_words(
-    unread: &[(&str, &str)],
-    of: Type,
-    first: &str,
-    lines: &mut String,
-) -> Result<(), AllocError> {
-    let mut mark = first;
-    for (word, instead) in unread {
+    let mut mark = "Not read: ";
+    for (word, instead) in &unread {
         match *instead {
-            "" if of == "inet_service" => write!(lines, "{mark}`{word}` (write its number)")?,
+            "" if *of == SERVICE => write!(lines, "{mark}`{word}` (write its number)")?,
             "" => write!(lines, "{mark}`{word}`")?,
             _ => write!(lines, "{mark}`{word}` (write `{instead}`)")?,
         }
         mark = ", ";
     }
-    Ok(())
+    lines.push_str(".\n")?;
+    Ok(true)
 }
 
-/// The words of the list around a place that a type doesn't list; none of a map.
+/// The words of the list around a place that a type doesn't list, each with what may be meant, empty
+/// where that isn't known; those first that are near one of the type. None of a map.
 fn unread_words<'a>(
     alloc: Global,
     around: &Around<'a>,
-    of: Type,
-) -> Result<Unread<'a>, AllocError> {
-    let mut unread = Unread {
-        near: Vec::new(alloc),
-        others: Vec::new(alloc),
-    };
-    if words_of(of).is_empty() {
+    of: ComparedType,
+) -> Result<Vec<(&'a str, &'static str)>, AllocError> {
+    let (mut unread, mut others) = (Vec::new(alloc), Vec::new(alloc));
+    let known = Kind::Constants(of).words(alloc)?;
+    if known.is_empty() {
         return Ok(unread);
     }
-    let known: Vec<&'static str> = words_of(of).split(' ').collect(alloc)?;
     for number in first_of_list(around)..around.words.len() {
         match around.words.get(number) {
             "}" | ":" => break,
-            word if is_word(word) && !lists(words_of(of), word) => match nearest(
-                alloc, word, &known,
-            )? {
-                Some(near) => unread.near.push((word, near))?,
-                None => unread
-                    .others
-                    .push((word, instead_of(of, word).unwrap_or("")))?,
+            word if is_word(word) && !known.contains(&word) => match nearest(alloc, word, &known)? {
+                Some(near) => unread.push((word, near))?,
+                None => others.push((word, instead_of(of, word).unwrap_or("")))?,
             },
             _ => {}
         }
     }
+    unread.extend_from_slice(&others)?;
     Ok(unread)
 }
 
 /// The number of the first word of the list around a place; that of no word where there is none.
 fn first_of_list(around: &Around<'_>) -> usize {
-    for places in 1..around.at.saturating_add(1) {
-        if around.before(places) == "{" {
-            return around.at.saturating_sub(places).saturating_add(1);
-        }
+    match (1..around.at.saturating_add(1)).find(|places| around.before(*places) == "{") {
+        Some(places) => around.at.saturating_sub(places).saturating_add(1),
+        None => around.words.len(),
     }
-    around.words.len()
 }
 
 fn is_word(word: &str) -> bool {

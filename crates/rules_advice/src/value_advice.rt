@@ -1,12 +1,18 @@
 //! What to do about a value that isn't of its type.
 use crate::around::Around;
 use crate::name_advice::unquoted;
-use crate::types::{Type, Types, greatest, values_of};
+use crate::types::{Types, greatest, values_of};
 use advice::{
-    Advice, Gap, NO_GAP, filled, fixed, greatest_is, lists, no_value, one_of, otherwise,
-    with_texts, words_of, write_this,
+    Advice, DID_YOU_MEAN_ONE_OF, Gap, NO_GAP, filled, fixed, greatest_is, has_constant, lists,
+    no_value, one_of, otherwise, with_texts, write_this,
 };
 use fault_places::Words;
+use nft_tree::{ComparedType, ValueType};
+use std::net::Ipv4Addr;
+
+const ADDRESS: ComparedType = ComparedType::Named(ValueType::Address);
+
+pub const SERVICE: ComparedType = ComparedType::Named(ValueType::Service);
 
 /// The greatest length of a prefix.
 const MOST_LENGTH: u64 = 32;
@@ -17,70 +23,43 @@ pub fn value_advice<'a>(around: &Around<'a>, types: &Types) -> Option<Advice<'a>
         return Some(fixed(sentence));
     }
     let before = around.before(1);
+    let mark = [ComparedType::Named(ValueType::Mark)];
     match (around.set(), types.data) {
         (Some(_), Some(data)) if before == ":" => values_advice(around, &[data]),
         (Some(_), _) => values_advice(around, &types.keys),
-        (None, _) if before == "set" => values_advice(around, &["mark"]),
+        (None, _) if before == "set" => values_advice(around, &mark),
         (None, _) => values_advice(around, &types.compared),
     }
 }
 
-/// What to do about the values of the element at the place, whose parts are of these types.
-fn values_advice<'a>(around: &Around<'a>, types: &[Type]) -> Option<Advice<'a>> {
+/// What to do about the values of the element at the place, whose parts are of these types: a value
+/// alone, a range or a prefix, or values with dots between them.
+fn values_advice<'a>(around: &Around<'a>, types: &[ComparedType]) -> Option<Advice<'a>> {
     let mut first = match around.before(1) {
         "-" | "/" => around.at.saturating_sub(2),
         _ => around.at,
     };
     for of in types.get(parts_before(around)..)? {
-        let end = end_of_value(&around.words, first);
-        if let Some(found) = part_advice(&around.words, *of, first, end) {
+        if let Some(found) = part_advice(&around.words, *of, first) {
             return Some(found);
         }
-        first = end.saturating_add(1);
+        first = first.saturating_add(2);
     }
     None
 }
 
-/// The number behind the last word of the value that begins at a word.
-fn end_of_value(words: &Words<'_>, first: usize) -> usize {
-    for number in first..words.len() {
-        let is_more = matches!(
-            words.get(number).as_bytes(),
-            [b'0'..=b'9' | b'-' | b'/', ..]
-        );
-        if number != first && !is_more {
-            return number;
-        }
-    }
-    words.len().max(first)
-}
-
-/// What to do about a value of one type, if it isn't of it: about the words from one number up to
-/// another.
-fn part_advice<'a>(words: &Words<'a>, of: Type, first: usize, end: usize) -> Option<Advice<'a>> {
-    let (start, last) = (words.get(first), words.before(end, 1));
-    let mark = if end.saturating_sub(first) == 3 {
-        words.before(end, 2)
-    } else {
-        ""
-    };
+/// What to do about the value, the range or the prefix that begins at a word, if it isn't of a type.
+fn part_advice<'a>(words: &Words<'a>, of: ComparedType, first: usize) -> Option<Advice<'a>> {
+    let (start, last) = (words.get(first), words.get(first.saturating_add(2)));
+    let mark = words.get(first.saturating_add(1));
     if mark == "/" {
         return prefix_advice(of, last);
     }
     if mark == "-" && is_reversed(start, last) {
         return Some(with_texts("Write `{}-{}`.", last, start));
     }
-    words_advice(words, of, first, end)
-}
-
-/// What to do about the first word of a value that is none of a type.
-fn words_advice<'a>(words: &Words<'a>, of: Type, first: usize, end: usize) -> Option<Advice<'a>> {
-    for number in first..end {
-        if let Some(found) = word_advice(of, words.get(number)) {
-            return Some(found);
-        }
-    }
-    None
+    let is_last_wrong = mark == "-" && word_advice(of, start).is_none();
+    word_advice(of, if is_last_wrong { last } else { start })
 }
 
 /// What to do about numbers and strings that aren't compared.
@@ -97,68 +76,54 @@ fn uncompared(around: &Around<'_>) -> Option<&'static str> {
     None
 }
 
-/// Whether the first of two numbers is greater.
+/// Whether the first of two numbers or addresses is greater.
 fn is_reversed(first: &str, last: &str) -> bool {
     match (first.parse::<u64>(), last.parse::<u64>()) {
         (Ok(first), Ok(last)) => first > last,
-        _ => number_of(first) > number_of(last),
+        _ => first.parse::<Ipv4Addr>().ok() > last.parse::<Ipv4Addr>().ok(),
     }
-}
-
-/// An address as a number.
-fn number_of(address: &str) -> u64 {
-    let mut number = 0u64;
-    for group in address.split('.') {
-        let group = group.parse::<u64>().unwrap_or(0).min(255);
-        number = number.wrapping_mul(256).wrapping_add(group);
-    }
-    number
 }
 
 /// How many parts of its element stand before the place.
 fn parts_before(around: &Around<'_>) -> usize {
-    let mut parts = 0usize;
-    for places in 1..around.at {
-        match around.before(places) {
-            "," | "{" => break,
-            "." => parts = parts.saturating_add(1),
-            _ => {}
-        }
-    }
-    parts
+    let before = (1..around.at).map(|places| around.before(places));
+    let element = before.take_while(|word| !lists(", {", word));
+    element.filter(|word| *word == ".").count()
 }
 
 /// What to do about a prefix of this length.
-fn prefix_advice<'a>(of: Type, length: &str) -> Option<Advice<'a>> {
-    if of != "ipv4_addr" {
+fn prefix_advice<'a>(of: ComparedType, length: &str) -> Option<Advice<'a>> {
+    if of != ADDRESS {
         return Some(fixed("Only addresses have prefixes: write a range."));
     }
     match length.parse::<u64>() {
-        Ok(length) if length > MOST_LENGTH => Some(greatest_is("length of a prefix", MOST_LENGTH)),
+        Ok(length) if length > MOST_LENGTH => Some(greatest_is(
+            Gap::Text("length of a prefix"),
+            MOST_LENGTH,
+        )),
         _ => None,
     }
 }
 
 /// What to do about a word that is no value of a type; none where it is one.
-fn word_advice<'a>(of: Type, word: &'a str) -> Option<Advice<'a>> {
+fn word_advice<'a>(of: ComparedType, word: &'a str) -> Option<Advice<'a>> {
     if let Ok(number) = word.parse::<u64>() {
         return number_advice(of, number);
     }
     match word.as_bytes() {
-        [b'0'..=b'9', ..] if of != "ipv4_addr" => Some(compared_elsewhere(of, "ipv4_addr")),
+        [b'0'..=b'9', ..] if of != ADDRESS => Some(compared_elsewhere(of, ADDRESS)),
         [b'"', ..] => Some(string_advice(of)),
-        [b'-' | b'/' | b'.', ..] => None,
         _ => named_advice(of, word),
     }
 }
 
 /// What to do about a value of another type than the one that is compared.
-fn compared_elsewhere<'a>(of: Type, other: Type) -> Advice<'a> {
-    let (wanted, elsewhere) = (values_of(of).0, values_of(other).1);
+fn compared_elsewhere<'a>(of: ComparedType, other: ComparedType) -> Advice<'a> {
+    let (wanted, elsewhere) = (values_of(of).are, values_of(other).selectors);
     filled(
         "This is no {}: write {}, or compare {}.",
         [
-            Gap::Text(of),
+            Gap::Type(of),
             Gap::Text(wanted),
             Gap::Text(elsewhere),
             NO_GAP,
@@ -166,56 +131,59 @@ fn compared_elsewhere<'a>(of: Type, other: Type) -> Advice<'a> {
     )
 }
 
-fn number_advice<'a>(of: Type, number: u64) -> Option<Advice<'a>> {
+fn number_advice<'a>(of: ComparedType, number: u64) -> Option<Advice<'a>> {
     match greatest(of) {
-        Some(most) if number > most => Some(greatest_is(of, most)),
+        Some(most) if number > most => Some(greatest_is(Gap::Type(of), most)),
         Some(_) => None,
-        None if of == "ipv4_addr" => Some(compared_elsewhere(of, "inet_service")),
-        None => Some(no_value(of, values_of(of).0)),
+        None if of == ADDRESS => Some(compared_elsewhere(of, SERVICE)),
+        None => Some(no_value(of, values_of(of).are)),
     }
 }
 
-fn string_advice<'a>(of: Type) -> Advice<'a> {
-    if lists("ifname iface_index", of) {
-        fixed("An interface's name has 1 to 15 bytes and no backslash.")
-    } else {
-        fixed("Write it without quotes.")
-    }
+fn string_advice<'a>(of: ComparedType) -> Advice<'a> {
+    fixed(match of {
+        ComparedType::Named(ValueType::InterfaceName | ValueType::InterfaceIndex) => {
+            "An interface's name has 1 to 15 bytes and no backslash."
+        }
+        _ => "Write it without quotes.",
+    })
 }
 
 /// What to do about a word, where it isn't one that its type lists.
-fn named_advice<'a>(of: Type, word: &'a str) -> Option<Advice<'a>> {
-    let known = words_of(of);
-    if lists(known, word) {
+fn named_advice<'a>(of: ComparedType, word: &'a str) -> Option<Advice<'a>> {
+    if has_constant(of, word) {
         return None;
     }
     Some(match instead_of(of, word) {
         Some(other) => write_this(other),
-        None => unknown_advice(of, known).unless_one_of(unquoted(word), known),
+        None => unknown_advice(of).unless_near(
+            unquoted(word),
+            Gap::Constants(of),
+            DID_YOU_MEAN_ONE_OF,
+        ),
     })
 }
 
 /// What to do about a word that is like none of those that its type lists.
-fn unknown_advice<'a>(of: Type, known: &'static str) -> Advice<'a> {
+fn unknown_advice<'a>(of: ComparedType) -> Advice<'a> {
     match of {
-        "ifname" | "iface_index" => string_advice(of),
-        "inet_service" => no_value(of, "the port's number"),
-        _ if known.is_empty() => no_value(of, values_of(of).0),
-        _ => one_of(Gap::Listed(known)),
+        ComparedType::Named(ValueType::InterfaceName | ValueType::InterfaceIndex) => {
+            string_advice(of)
+        }
+        ComparedType::Named(ValueType::Service) => no_value(of, "the port's number"),
+        ComparedType::Named(named) if !named.words().is_empty() => one_of(Gap::Constants(of)),
+        _ => no_value(of, values_of(of).are),
     }
 }
 
 /// What stands here for a word that others write: a word of the type, or a port's number.
-pub fn instead_of(of: Type, word: &str) -> Option<&'static str> {
-    for (instead, written) in otherwise() {
-        if lists(written, word) && is_known(of, instead) {
-            return Some(instead);
-        }
-    }
-    None
+pub fn instead_of(of: ComparedType, word: &str) -> Option<&'static str> {
+    let mut rows = otherwise().iter().copied();
+    rows.find(|row| lists(row.1, word) && is_known(of, row.0))
+        .map(|row| row.0)
 }
 
 /// Whether a word is one of those of its type, or a port's number.
-fn is_known(of: Type, word: &str) -> bool {
-    lists(words_of(of), word) || (of == "inet_service" && word.parse::<u16>().is_ok())
+fn is_known(of: ComparedType, word: &str) -> bool {
+    has_constant(of, word) || (of == SERVICE && word.parse::<u16>().is_ok())
 }
