@@ -1,10 +1,9 @@
 //! What nft(8) refuses of the heads of base chains, and what Linux does otherwise by them.
 use crate::findings::Findings;
-use crate::outline::{Outline, PartKind, Range};
-use crate::tokens::Tokens;
 use crate::warning;
-use nft_tree::{Chain, ChainKind, Head, Hook, Policy, Priority, PriorityName, Ruleset, Table};
-use std::alloc::{AllocError, Global};
+use nft_tree::{Chain, ChainKind, Head, Hook, Policy, Priority, PriorityName};
+use node_spans::TokenRange;
+use std::alloc::AllocError;
 
 /// The priorities at which Linux translates destinations and sources (linux/netfilter_ipv4.h).
 const DESTINATION_STEP: i128 = -100;
@@ -16,7 +15,7 @@ const LOOKUP: i128 = -200;
 
 /// A base chain.
 #[derive(Clone, Copy)]
-struct BaseChain {
+pub(crate) struct BaseChain {
     kind: ChainKind,
     hook: Hook,
     priority: i128,
@@ -25,25 +24,8 @@ struct BaseChain {
 }
 
 impl BaseChain {
-    fn of(head: &Head, place: usize) -> BaseChain {
-        BaseChain {
-            kind: head.kind,
-            hook: head.hook,
-            priority: head.priority.number(),
-            place,
-        }
-    }
-
     fn is_nat(self) -> bool {
         matches!(self.kind, ChainKind::Nat)
-    }
-
-    fn is_filter(self) -> bool {
-        matches!(self.kind, ChainKind::Filter)
-    }
-
-    fn is_on_output(self) -> bool {
-        matches!(self.hook, Hook::Output)
     }
 
     fn shares_hook(self, other: BaseChain) -> bool {
@@ -55,34 +37,17 @@ impl BaseChain {
         self.shares_hook(other)
             && self.is_nat() == other.is_nat()
             && self.priority == other.priority
-            && !self.is_on_output()
+            && !matches!(self.hook, Hook::Output)
     }
 
-    fn shares_place_with(self, others: &[BaseChain]) -> bool {
-        for other in others {
-            if self.shares_place(*other) {
-                return true;
-            }
-        }
-        false
-    }
-
-    fn shares_hook_with_nat(self, others: &[BaseChain]) -> bool {
-        for other in others {
-            if other.is_nat() && self.shares_hook(*other) {
-                return true;
-            }
-        }
-        false
-    }
-
-    /// Whether its priority is just that at which addresses are translated.
+    /// Whether it filters at just the priority at which addresses are translated.
     fn is_at_step(self) -> bool {
-        match self.hook {
-            Hook::Prerouting => self.priority == DESTINATION_STEP,
-            Hook::Postrouting => self.priority == SOURCE_STEP,
-            Hook::Input | Hook::Forward | Hook::Output => false,
-        }
+        let step = match self.hook {
+            Hook::Prerouting => DESTINATION_STEP,
+            Hook::Postrouting => SOURCE_STEP,
+            Hook::Input | Hook::Forward | Hook::Output => return false,
+        };
+        !self.is_nat() && self.priority == step
     }
 }
 
@@ -93,97 +58,61 @@ pub(crate) fn is_early(head: &Head) -> bool {
         && head.priority.number() <= LOOKUP
 }
 
-/// Adds the warnings about the heads of base chains.
-pub(crate) fn judge_chains(
-    alloc: Global,
-    ruleset: &Ruleset,
-    tokens: &Tokens<'_>,
-    findings: &mut Findings<'_>,
-) -> Result<(), AllocError> {
-    let mut chains = Vec::new(alloc);
-    judge_tables(ruleset, tokens, &mut chains, findings)?;
-    judge_order(&chains, tokens, findings);
-    Ok(())
-}
-
-/// Adds the warnings about the heads of all base chains, and lists these chains.
-fn judge_tables(
-    ruleset: &Ruleset,
-    tokens: &Tokens<'_>,
-    chains: &mut Vec<BaseChain>,
-    findings: &mut Findings<'_>,
-) -> Result<(), AllocError> {
-    let mut outline = Outline::START;
-    for table in &ruleset.tables {
-        judge_heads(table, tokens, &mut outline, chains, findings)?;
-    }
-    Ok(())
-}
-
-/// Adds the warnings about the heads of a table's base chains, and appends these chains to those of
-/// the tables before.
-fn judge_heads(
-    table: &Table,
-    tokens: &Tokens<'_>,
-    outline: &mut Outline,
-    chains: &mut Vec<BaseChain>,
-    findings: &mut Findings<'_>,
-) -> Result<(), AllocError> {
-    for item in &table.items {
-        if let Some(chain) = item.chain() {
-            if let Some(head) = &chain.head {
-                let part = outline.next_or_empty(tokens, PartKind::Head);
-                chains.push(judge_head(chain, head, tokens, part, findings))?;
-            }
-        }
-    }
-    Ok(())
-}
-
-/// Adds the warnings about one head, and returns its chain.
-fn judge_head(
-    chain: &Chain,
-    head: &Head,
-    tokens: &Tokens<'_>,
-    part: Range,
-    findings: &mut Findings<'_>,
-) -> BaseChain {
-    let place = part.place_of(tokens, part.start, b"priority");
-    let base = BaseChain::of(head, place);
-    if is_misplaced_name(head) {
-        findings.add(tokens, place, warning::PRIORITY_NAME);
-    }
-    if is_early(head) && base.priority == LOOKUP {
-        findings.add(tokens, place, warning::EARLY_PRIORITY);
-    }
-    let does_something = !chain.rules.is_empty() || matches!(head.policy, Some(Policy::Drop));
-    if base.is_on_output() && does_something {
-        findings.add(tokens, part.start, warning::OUTPUT_CHAIN);
-    }
-    base
-}
-
 /// Whether the name of a priority isn't one of its hook.
 fn is_misplaced_name(head: &Head) -> bool {
-    let name = match head.priority {
-        Priority::Named(name) | Priority::Offset(name, _, _) => name,
-        Priority::Number(_, _) => return false,
-    };
-    match name {
-        PriorityName::DstNat => !matches!(head.hook, Hook::Prerouting),
-        PriorityName::SrcNat => !matches!(head.hook, Hook::Postrouting),
+    match head.priority {
+        Priority::Named(PriorityName::DstNat) | Priority::Offset(PriorityName::DstNat, _, _) => {
+            !matches!(head.hook, Hook::Prerouting)
+        }
+        Priority::Named(PriorityName::SrcNat) | Priority::Offset(PriorityName::SrcNat, _, _) => {
+            !matches!(head.hook, Hook::Postrouting)
+        }
         _ => false,
     }
 }
 
-/// Adds the warnings about chains that have one place together.
-fn judge_order(chains: &[BaseChain], tokens: &Tokens<'_>, findings: &mut Findings<'_>) {
-    for (number, chain) in chains.iter().enumerate() {
-        if chain.shares_place_with(chains.get(..number).unwrap_or(&[])) {
-            findings.add(tokens, chain.place, warning::SAME_PRIORITY);
+impl Findings<'_> {
+    /// Adds the warnings about the head of a chain.
+    pub(crate) fn judge_head(
+        &mut self,
+        chain: &Chain,
+        head: &Head,
+        range: TokenRange,
+    ) -> Result<(), AllocError> {
+        let base = BaseChain {
+            kind: head.kind,
+            hook: head.hook,
+            priority: head.priority.number(),
+            place: self.tokens.find(range, b"priority").unwrap_or(range.first),
+        };
+        if is_misplaced_name(head) {
+            self.add(base.place, warning::PRIORITY_NAME);
         }
-        if chain.is_filter() && chain.is_at_step() && chain.shares_hook_with_nat(chains) {
-            findings.add(tokens, chain.place, warning::NAT_PRIORITY);
+        if is_early(head) && base.priority == LOOKUP {
+            self.add(base.place, warning::EARLY_PRIORITY);
+        }
+        let does_something = !chain.rules.is_empty() || matches!(head.policy, Some(Policy::Drop));
+        if matches!(head.hook, Hook::Output) && does_something {
+            self.add_at_word(range, b"type", warning::OUTPUT_CHAIN);
+        }
+        self.chains.push(base)?;
+        Ok(())
+    }
+
+    /// Adds the warnings about base chains that have one place together.
+    pub(crate) fn judge_order(&mut self) {
+        for number in 0..self.chains.len() {
+            let Some(chain) = self.chains.get(number).copied() else {
+                return;
+            };
+            let mut earlier = self.chains.iter().take(number);
+            if earlier.any(|other| chain.shares_place(*other)) {
+                self.add(chain.place, warning::SAME_PRIORITY);
+            }
+            let mut all = self.chains.iter();
+            if chain.is_at_step() && all.any(|other| other.is_nat() && chain.shares_hook(*other)) {
+                self.add(chain.place, warning::NAT_PRIORITY);
+            }
         }
     }
 }

@@ -1,5 +1,5 @@
 //! The numbers that the elements of a set or a map cover.
-use nft_tree::{ComparedType, Key, Value, ValueRange, ValueType};
+use nft_tree::{ComparedType, Value, ValueRange, ValueType};
 
 /// The numbers that an element covers, both ends included, and its place among the elements.
 #[derive(Clone, Copy)]
@@ -21,16 +21,13 @@ pub(crate) struct Coverage {
 }
 
 /// The number of a literal. None for the name of an interface where its index is meant.
-fn number_of(value: &Value, value_type: ComparedType) -> Option<u128> {
-    match value {
-        Value::Number(number) => Some(u128::from(*number)),
-        Value::Address(address) => Some(u128::from(*address)),
-        Value::Word(word) | Value::String(word) => number_of_word(word, value_type),
-    }
-}
-
-fn number_of_word(word: &[u8], value_type: ComparedType) -> Option<u128> {
-    match value_type {
+pub(crate) fn number_of(value: &Value, kind: ComparedType) -> Option<u128> {
+    let word = match value {
+        Value::Number(number) => return Some(u128::from(*number)),
+        Value::Address(address) => return Some(u128::from(*address)),
+        Value::Word(word) | Value::String(word) => word,
+    };
+    match kind {
         ComparedType::Named(ValueType::InterfaceName) => Some(name_number(word, 0)),
         ComparedType::Named(named) => Some(u128::from(named.number_of(word)?)),
         ComparedType::Unnamed(_) => None,
@@ -48,57 +45,15 @@ fn name_number(name: &[u8], filler: u8) -> u128 {
 /// What a name with a last `*` has before it.
 pub(crate) fn wildcard_stem(value: &Value) -> Option<&[u8]> {
     match value {
-        Value::String(text) => {
-            let (last, stem) = text.split_last()?;
-            if *last == b'*' { Some(stem) } else { None }
-        }
+        Value::String(text) => match text.as_slice() {
+            [stem @ .., b'*'] => Some(stem),
+            _ => None,
+        },
         _ => None,
     }
 }
 
-/// The ends of what a key covers.
-fn ends_of(range: &ValueRange, value_type: ComparedType) -> Option<(u128, u128)> {
-    match range {
-        ValueRange::One(value) => {
-            if let Some(stem) = wildcard_stem(value) {
-                return Some((name_number(stem, 0), name_number(stem, 0xff)));
-            }
-            let number = number_of(value, value_type)?;
-            Some((number, number))
-        }
-        ValueRange::Between(low, high) => Some((
-            number_of(low, value_type)?,
-            number_of(high, value_type)?,
-        )),
-        ValueRange::Prefix(address, length) => {
-            let hosts = hosts_of(*length);
-            Some((u128::from(*address & !hosts), u128::from(*address | hosts)))
-        }
-    }
-}
-
-/// The bits behind a prefix of this length.
-fn hosts_of(length: u64) -> u32 {
-    if length == 0 {
-        return u32::MAX;
-    }
-    if length >= 32 {
-        return 0;
-    }
-    u32::MAX >> length
-}
-
-/// The interval of an element's key.
-pub(crate) fn interval_of(
-    range: &ValueRange,
-    value_type: ComparedType,
-    element: usize,
-) -> Option<Interval> {
-    let (low, high) = ends_of(range, value_type)?;
-    Some(Interval { low, high, element })
-}
-
-/// Whether nft takes the key for an interval.
+/// Whether nft takes a key for an interval.
 pub(crate) fn is_interval(range: &ValueRange) -> bool {
     match range {
         ValueRange::One(value) => wildcard_stem(value).is_some(),
@@ -106,39 +61,45 @@ pub(crate) fn is_interval(range: &ValueRange) -> bool {
     }
 }
 
-/// Whether nft takes the key of an element for an interval.
-pub(crate) fn is_interval_key(key: &Key) -> bool {
-    match key {
-        Key::Single(range) => is_interval(range),
-        Key::Joined(values) => has_wildcard(values),
+impl Interval {
+    /// The interval of an element's key.
+    pub(crate) fn of(range: &ValueRange, kind: ComparedType, element: usize) -> Option<Interval> {
+        let (low, high) = match range {
+            ValueRange::One(value) => match wildcard_stem(value) {
+                Some(stem) => (name_number(stem, 0), name_number(stem, 0xff)),
+                None => (number_of(value, kind)?, number_of(value, kind)?),
+            },
+            ValueRange::Between(low, high) => (number_of(low, kind)?, number_of(high, kind)?),
+            ValueRange::Prefix(address, length) => {
+                let hosts = hosts_of(*length);
+                (u128::from(*address & !hosts), u128::from(*address | hosts))
+            }
+        };
+        Some(Interval { low, high, element })
     }
 }
 
-fn has_wildcard(values: &[Value]) -> bool {
-    for value in values {
-        if wildcard_stem(value).is_some() {
-            return true;
-        }
+/// The bits behind a prefix of this length.
+fn hosts_of(length: u64) -> u32 {
+    match length {
+        0..=31 => u32::MAX >> length,
+        _ => 0,
     }
-    false
 }
 
 /// How intervals cover numbers together.
 pub(crate) fn cover(intervals: &mut [Interval]) -> Coverage {
     intervals.sort_unstable_by_key(|interval| (interval.low, interval.high, interval.element));
     let mut covered = Coverage {
-        count: 0,
-        joined: 0,
+        count: intervals.len().min(1),
+        joined: intervals.len().min(1),
         overlapping: None,
     };
-    let mut last: Option<Interval> = None;
-    for interval in intervals.iter() {
-        let Some(before) = last else {
-            covered.count = 1;
-            covered.joined = 1;
-            last = Some(*interval);
-            continue;
-        };
+    let Some((first, others)) = intervals.split_first() else {
+        return covered;
+    };
+    let mut before = *first;
+    for interval in others {
         if interval.low == before.low && interval.high == before.high {
             continue;
         }
@@ -148,12 +109,10 @@ pub(crate) fn cover(intervals: &mut [Interval]) -> Coverage {
         } else if interval.low - before.high > 1 {
             covered.joined = covered.joined.saturating_add(1);
         }
-        let further = Interval {
-            low: interval.low,
+        before = Interval {
             high: interval.high.max(before.high),
-            element: interval.element,
+            ..*interval
         };
-        last = Some(further);
     }
     covered
 }

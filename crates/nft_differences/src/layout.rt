@@ -1,103 +1,87 @@
 //! What nft(8) refuses of a text's layout: ends, newlines, blanks, names and comments.
 use crate::findings::Findings;
 use crate::names::is_reserved;
-use crate::outline::{Declaration, Nesting, Outline, PartKind};
 use crate::tokens::Tokens;
-use crate::warning::{self, Warning};
+use crate::warning;
 use nft_lexer::TokenKind;
+use node_spans::TokenRange;
 
-/// The most bytes of a comment, and of a name.
-const MOST_OF_COMMENT: usize = 128;
+/// The most bytes of a comment, with its quotes, and of a name.
+const MOST_OF_COMMENT: usize = 130;
 
 const MOST_OF_NAME: usize = 255;
 
 /// The most hexadecimal digits on either side of a colon that nft takes together.
 const MOST_OF_CLASS: usize = 4;
 
-/// The words that begin a declaration.
-static DECLARATIONS: [&[u8]; 3] = [b"chain", b"set", b"map"];
-
-/// What ends all before a closing brace.
-static BEFORE_END: [&[u8]; 3] = [b"{", b"\n", b";"];
-
-/// What may stand before a newline in a list, and behind it.
-static BEFORE_NEWLINE: [&[u8]; 2] = [b"{", b","];
-
-static BEHIND_NEWLINE: [&[u8]; 2] = [b"}", b","];
-
-/// Adds the warnings about the layout.
-pub(crate) fn judge_layout(tokens: &Tokens<'_>, findings: &mut Findings<'_>) {
-    if let Some(offset) = carriage_return(tokens.text) {
-        findings.add_at(offset, warning::CARRIAGE_RETURN);
-    }
-    judge_second_comments(tokens, findings);
-    judge_names(tokens, findings);
-    judge_tokens(tokens, findings);
-}
-
-/// Adds the warnings about comments of what has one already.
-fn judge_second_comments(tokens: &Tokens<'_>, findings: &mut Findings<'_>) {
-    let mut outline = Outline::START;
-    for _ in 0..tokens.len() {
-        let Some(comment) = outline.next(tokens, PartKind::SecondComment) else {
-            break;
-        };
-        findings.add(tokens, comment.start, warning::SECOND_COMMENT);
-    }
-}
-
-/// Adds the warnings about names.
-fn judge_names(tokens: &Tokens<'_>, findings: &mut Findings<'_>) {
-    let mut outline = Outline::START;
-    for _ in 0..tokens.len() {
-        let Some(name) = outline.next(tokens, PartKind::Name) else {
-            break;
-        };
-        judge_name(tokens, name.start, findings);
-    }
-}
-
-/// Adds the warnings about single tokens, and about newlines and ends where they stand.
-fn judge_tokens(tokens: &Tokens<'_>, findings: &mut Findings<'_>) {
-    let mut nesting = Nesting::OUTSIDE;
-    let mut declaration = 0;
-    for index in 0..tokens.len() {
-        judge_token(tokens, index, findings);
-        if nesting.depth == 1 && begins_declaration(tokens, index) {
-            declaration = index;
+impl Findings<'_> {
+    /// Adds the warnings about single tokens, and about newlines in lists.
+    pub(crate) fn judge_tokens(&mut self) {
+        if let Some(offset) = carriage_return(self.tokens.text) {
+            self.add_at(offset, warning::CARRIAGE_RETURN);
         }
-        match tokens.bytes(index) {
-            b"{" => nesting = opened(tokens, nesting, declaration),
-            b"}" => {
-                judge_closing(tokens, index, nesting, findings);
-                nesting.depth = nesting.depth.saturating_sub(1);
+        let mut depth = 0usize;
+        for index in 0..self.tokens.all.len() {
+            self.judge_token(index);
+            match self.tokens.bytes(index) {
+                b"{" => depth = depth.saturating_add(1),
+                b"}" => depth = depth.saturating_sub(1),
+                b"\n" if depth > 2 && !may_be_in_list(self.tokens, index) => {
+                    self.add(index, warning::NEWLINE_IN_LIST);
+                }
+                _ => {}
             }
-            b"\n" => judge_newline(tokens, index, nesting, findings),
+        }
+    }
+
+    /// Adds what is wrong with a token beside the next one.
+    fn judge_token(&mut self, index: usize) {
+        let tokens = self.tokens;
+        let next = index.saturating_add(1);
+        let there = tokens.bytes(next);
+        match tokens.kind(next) {
+            TokenKind::String if tokens.is(index, b"comment") && there.len() > MOST_OF_COMMENT => {
+                self.add(next, warning::LONG_COMMENT);
+            }
+            TokenKind::String if tokens.is(index, b"prefix") && there.contains(&b'$') => {
+                self.add(next, warning::PREFIX_VARIABLE);
+            }
+            _ if !tokens.is_tight(next) => {}
+            _ if tokens.is(index, b".") && continues_word(there) => {
+                self.add(index, warning::TIGHT_DOT);
+            }
+            TokenKind::Number(_) if tokens.is(index, b":") && is_class(tokens, index) => {
+                self.add(index, warning::TIGHT_COLON);
+            }
+            TokenKind::Word if is_decimal(tokens.bytes(index)) && begins_with_unit(there) => {
+                self.add(index, warning::TIGHT_UNIT);
+            }
             _ => {}
         }
     }
-}
 
-/// Whether a token begins a declaration, and isn't its name.
-fn begins_declaration(tokens: &Tokens<'_>, index: usize) -> bool {
-    DECLARATIONS.contains(&tokens.bytes(index)) && !is_name(tokens, index)
-}
-
-/// The nesting behind an opening brace; `declaration` is the last word that begins one.
-fn opened(tokens: &Tokens<'_>, nesting: Nesting, declaration: usize) -> Nesting {
-    Nesting {
-        depth: nesting.depth.saturating_add(1),
-        declaration: if nesting.depth == 1 {
-            Declaration::at(tokens, declaration)
-        } else {
-            nesting.declaration
-        },
+    /// Adds what is wrong with the name and the closing brace of a table, a chain, a set or a map.
+    pub(crate) fn judge_braces(&mut self, range: TokenRange, is_chain: bool) {
+        let name = self.tokens.inside(range).start.saturating_sub(2);
+        if is_reserved(self.tokens.bytes(name)) {
+            self.add(name, warning::RESERVED_NAME);
+        }
+        if self.tokens.bytes(name).len() > MOST_OF_NAME {
+            self.add(name, warning::LONG_NAME);
+        }
+        let close = range.end.saturating_sub(1);
+        let is_ended = match self.tokens.bytes(close.saturating_sub(1)) {
+            b"{" | b"\n" | b";" => true,
+            b"}" | b"auto-merge" => !is_chain,
+            _ => false,
+        };
+        if !is_ended {
+            self.add(close, warning::MISSING_END);
+        }
+        if !matches!(self.tokens.bytes(range.end), b"\n" | b";" | b"") {
+            self.add(range.end, warning::MISSING_END);
+        }
     }
-}
-
-/// Whether a token is the name of a declaration.
-fn is_name(tokens: &Tokens<'_>, index: usize) -> bool {
-    tokens.is(index.saturating_add(1), b"{")
 }
 
 /// The first carriage return outside strings and comments.
@@ -119,139 +103,43 @@ fn carriage_return(text: &[u8]) -> Option<usize> {
     None
 }
 
-fn judge_name(tokens: &Tokens<'_>, index: usize, findings: &mut Findings<'_>) {
-    let name = tokens.bytes(index);
-    if is_reserved(name) {
-        findings.add(tokens, index, warning::RESERVED_NAME);
-    }
-    if name.len() > MOST_OF_NAME {
-        findings.add(tokens, index, warning::LONG_NAME);
-    }
-}
-
-/// Adds what is wrong with a closing brace.
-fn judge_closing(tokens: &Tokens<'_>, index: usize, nesting: Nesting, findings: &mut Findings<'_>) {
-    if nesting.depth == 0 || nesting.depth > 2 {
-        return;
-    }
-    if !is_ended(tokens, index.saturating_sub(1), nesting) {
-        findings.add(tokens, index, warning::MISSING_END);
-    }
-    let next = index.saturating_add(1);
-    if !tokens.is_newline(next) && !tokens.is(next, b";") {
-        findings.add(tokens, next, warning::MISSING_END);
-    }
-}
-
-/// Whether what stands before a closing brace is ended; `last` is the token before the brace.
-fn is_ended(tokens: &Tokens<'_>, last: usize, nesting: Nesting) -> bool {
-    if BEFORE_END.contains(&tokens.bytes(last)) {
+/// Whether a newline may stand in a list where it does. Of newlines that follow one another the
+/// first is judged.
+fn may_be_in_list(tokens: Tokens<'_>, newline: usize) -> bool {
+    let before = newline.saturating_sub(1);
+    if tokens.is(before, b"\n") {
         return true;
     }
-    let in_set = nesting.depth == 2 && matches!(nesting.declaration, Declaration::SetOrMap);
-    if tokens.is(last, b"}") {
-        return nesting.depth == 1 || in_set;
+    let mut behind = newline.saturating_add(1)..tokens.all.len();
+    let next = behind.find(|index| !tokens.ends_comment_line(*index));
+    match tokens.bytes(next.unwrap_or(newline)) {
+        b"\n" => false,
+        b"}" | b"," => true,
+        _ => matches!(tokens.bytes(before), b"{" | b","),
     }
-    in_set && tokens.is(last, b"auto-merge")
-}
-
-/// Adds what is wrong with a newline in the braces of a list.
-fn judge_newline(tokens: &Tokens<'_>, index: usize, nesting: Nesting, findings: &mut Findings<'_>) {
-    let before = index.saturating_sub(1);
-    if nesting.depth < 3 || tokens.is(before, b"\n") {
-        return;
-    }
-    if !is_allowed_between(tokens, before, index.saturating_add(1)) {
-        findings.add(tokens, index, warning::NEWLINE_IN_LIST);
-    }
-}
-
-/// Whether a newline in a list may stand between two tokens.
-fn is_allowed_between(tokens: &Tokens<'_>, before: usize, next: usize) -> bool {
-    if tokens.is(next, b"\n") {
-        return false;
-    }
-    BEFORE_NEWLINE.contains(&tokens.bytes(before)) || BEHIND_NEWLINE.contains(&tokens.bytes(next))
-}
-
-/// Adds what is wrong with a token beside the next one.
-fn judge_token(tokens: &Tokens<'_>, index: usize, findings: &mut Findings<'_>) {
-    let next = index.saturating_add(1);
-    if let Some(warning) = tightness(tokens, index, next) {
-        findings.add(tokens, index, warning);
-    } else if let Some(warning) = string_behind(tokens, index, next) {
-        findings.add(tokens, next, warning);
-    }
-}
-
-/// What is wrong with a token that has no blank before the next one.
-fn tightness(tokens: &Tokens<'_>, index: usize, next: usize) -> Option<Warning> {
-    if !tokens.is_tight(next) {
-        return None;
-    }
-    let first = tokens.bytes(next).first().copied().unwrap_or(b'\n');
-    if tokens.is(index, b".") && continues_word(first) {
-        return Some(warning::TIGHT_DOT);
-    }
-    match tokens.kind(next) {
-        TokenKind::Number(_) if tokens.is(index, b":") && is_class(tokens, index) => {
-            Some(warning::TIGHT_COLON)
-        }
-        TokenKind::Word if is_unit(first) && is_decimal(tokens.bytes(index)) => {
-            Some(warning::TIGHT_UNIT)
-        }
-        _ => None,
-    }
-}
-
-/// What is wrong with a string behind a token.
-fn string_behind(tokens: &Tokens<'_>, index: usize, next: usize) -> Option<Warning> {
-    if !matches!(tokens.kind(next), TokenKind::String) {
-        return None;
-    }
-    let string = tokens.bytes(next);
-    if tokens.is(index, b"comment") && is_long(string) {
-        return Some(warning::LONG_COMMENT);
-    }
-    if tokens.is(index, b"prefix") && string.contains(&b'$') {
-        return Some(warning::PREFIX_VARIABLE);
-    }
-    None
-}
-
-/// Whether a comment is too long; its quotes don't count.
-fn is_long(comment: &[u8]) -> bool {
-    comment.len() > MOST_OF_COMMENT + 2
 }
 
 /// Whether a colon and the numbers beside it are one word for nft.
-fn is_class(tokens: &Tokens<'_>, colon: usize) -> bool {
+fn is_class(tokens: Tokens<'_>, colon: usize) -> bool {
     let before = tokens.bytes(colon.saturating_sub(1));
-    let next = colon.saturating_add(1);
-    let behind = tokens.bytes(next);
-    tokens.is_tight(colon)
-        && tokens.is_tight(next)
-        && is_decimal(before)
-        && is_decimal(behind)
-        && before.len() <= MOST_OF_CLASS
-        && behind.len() <= MOST_OF_CLASS
+    let behind = tokens.bytes(colon.saturating_add(1));
+    let longest = before.len().max(behind.len());
+    tokens.is_tight(colon) && is_decimal(before) && is_decimal(behind) && longest <= MOST_OF_CLASS
 }
 
 fn is_decimal(bytes: &[u8]) -> bool {
-    for byte in bytes {
-        if !byte.is_ascii_digit() {
-            return false;
-        }
+    !bytes.is_empty() && bytes.iter().all(|byte| byte.is_ascii_digit())
+}
+
+/// Whether a token continues a word for nft.
+fn continues_word(token: &[u8]) -> bool {
+    match token {
+        [first, ..] => first.is_ascii_alphanumeric() || matches!(first, b'_' | b'-' | b'.' | b'/'),
+        [] => false,
     }
-    !bytes.is_empty()
 }
 
-/// Whether a byte continues a word for nft.
-fn continues_word(byte: u8) -> bool {
-    byte.is_ascii_alphanumeric() || matches!(byte, b'_' | b'-' | b'.' | b'/')
-}
-
-/// Whether nft takes a letter behind a number for a unit of time.
-fn is_unit(byte: u8) -> bool {
-    matches!(byte, b'd' | b'h' | b'm' | b's')
+/// Whether nft takes the first letter of a word behind a number for a unit of time.
+fn begins_with_unit(word: &[u8]) -> bool {
+    matches!(word, [b'd' | b'h' | b'm' | b's', ..])
 }

@@ -6,12 +6,11 @@
 #![tactic(auto)]
 
 mod chains;
-mod exits;
+mod declarations;
 mod findings;
 mod intervals;
 mod layout;
 mod names;
-mod outline;
 mod places;
 mod ports;
 mod protocols;

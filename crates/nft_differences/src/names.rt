@@ -38,10 +38,5 @@ pub(crate) fn is_reserved_element(name: &[u8]) -> bool {
 
 /// Whether a name is one of some words.
 fn has_word(words: &str, name: &[u8]) -> bool {
-    for word in words.split_whitespace() {
-        if word.as_bytes() == name {
-            return true;
-        }
-    }
-    false
+    words.split_whitespace().any(|word| word.as_bytes() == name)
 }

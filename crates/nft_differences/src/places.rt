@@ -1,6 +1,6 @@
 //! Where the rules of a text are.
-use crate::outline::{Outline, PartKind};
-use crate::tokens::Tokens;
+use crate::tokens::{Tokens, lexed};
+use node_spans::{TokenRange, items, rules, tables};
 use std::alloc::{AllocError, Global};
 
 /// The offset at which each rule of the text of an accepted ruleset begins, in the order of the text.
@@ -8,14 +8,27 @@ use std::alloc::{AllocError, Global};
 /// # Errors
 /// `AllocError` for want of memory.
 pub fn rule_offsets(alloc: Global, text: &[u8]) -> Result<Vec<usize>, AllocError> {
-    let tokens = Tokens::read(alloc, text)?;
-    let mut outline = Outline::START;
     let mut offsets = Vec::new(alloc);
-    for _ in 0..tokens.len() {
-        let Some(rule) = outline.next(&tokens, PartKind::Rule) else {
-            break;
-        };
-        offsets.push(tokens.offset(rule.start))?;
+    if let Some(all) = lexed(alloc, text)? {
+        let tokens = Tokens { text, all: &all };
+        for table in tables(alloc, &all)?.unwrap_or(Vec::new(alloc)) {
+            put_offsets(alloc, tokens, table, &mut offsets)?;
+        }
     }
     Ok(offsets)
+}
+
+/// Appends the offsets of a table's rules.
+fn put_offsets(
+    alloc: Global,
+    tokens: Tokens<'_>,
+    table: TokenRange,
+    offsets: &mut Vec<usize>,
+) -> Result<(), AllocError> {
+    for item in items(alloc, tokens.all, table)?.unwrap_or(Vec::new(alloc)) {
+        for rule in rules(alloc, tokens.all, item)?.unwrap_or(Vec::new(alloc)) {
+            offsets.push(tokens.offset(rule.first))?;
+        }
+    }
+    Ok(())
 }

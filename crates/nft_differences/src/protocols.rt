@@ -1,21 +1,49 @@
 //! What nft(8) knows of a rule's packets from left to right: their family and transport protocol.
+use crate::intervals::number_of;
 use crate::warning::{self, Warning};
+use nft_expressions::Header;
 use nft_tree::{Family, Selector, Value};
 
-const ICMP: u32 = 1;
+const ICMP: u128 = 1;
 
-pub(crate) const TCP: u32 = 6;
+pub(crate) const TCP: u128 = 6;
 
-pub(crate) const UDP: u32 = 17;
+pub(crate) const UDP: u128 = 17;
 
 /// The protocols that nft 1.0.6 knows behind an IPv4 header: ICMP, IGMP, TCP, UDP, DCCP, ESP, AH,
 /// ICMPv6, IPComp, SCTP, UDP-Lite.
-static KNOWN: [u32; 11] = [ICMP, 2, TCP, UDP, 33, 50, 51, 58, 108, 132, 136];
+static KNOWN: [u128; 11] = [ICMP, 2, TCP, UDP, 33, 50, 51, 58, 108, 132, 136];
 
 /// The numbers of families (linux/netfilter.h).
-const NFPROTO_IPV4: u32 = 2;
+const NFPROTO_IPV4: u128 = 2;
 
-const NFPROTO_IPV6: u32 = 10;
+const NFPROTO_IPV6: u128 = 10;
+
+/// What a selector begins with, so that it asks for a header or for none.
+pub(crate) fn header_of(selector: Selector) -> Header {
+    match selector {
+        Selector::IpSource
+        | Selector::IpDestination
+        | Selector::IpProtocol
+        | Selector::IpTtl
+        | Selector::IpLength => Header::Ip,
+        Selector::TcpSource | Selector::TcpDestination | Selector::TcpFlags => Header::Tcp,
+        Selector::UdpSource | Selector::UdpDestination => Header::Udp,
+        Selector::TransportSource | Selector::TransportDestination => Header::Transport,
+        Selector::IcmpType => Header::Icmp,
+        Selector::MetaProtocol
+        | Selector::MetaLength
+        | Selector::MetaMark
+        | Selector::MetaFamily
+        | Selector::InputName
+        | Selector::OutputName
+        | Selector::InputIndex
+        | Selector::OutputIndex => Header::Meta,
+        Selector::CtMark | Selector::CtState | Selector::CtDirection | Selector::CtStatus => {
+            Header::Ct
+        }
+    }
+}
 
 /// The family of a rule's packets.
 #[derive(Clone, Copy)]
@@ -28,16 +56,20 @@ enum Network {
     Other,
 }
 
+/// The transport protocols that a rule has named.
+#[derive(Clone, Copy)]
+enum Transport {
+    None,
+    One(u128),
+    Several,
+}
+
 /// What a rule has named so far.
 #[derive(Clone, Copy)]
 pub(crate) struct Protocols {
     is_inet: bool,
     network: Network,
-    icmp: bool,
-    tcp: bool,
-    udp: bool,
-    /// Any other transport protocol.
-    other: bool,
+    transport: Transport,
 }
 
 impl Protocols {
@@ -46,33 +78,26 @@ impl Protocols {
         Protocols {
             is_inet,
             network: if is_inet { Network::Any } else { Network::Ipv4 },
-            icmp: false,
-            tcp: false,
-            udp: false,
-            other: false,
+            transport: Transport::None,
         }
     }
 
     /// Reads a selector, and returns what nft refuses of it.
     pub(crate) fn read(&mut self, selector: Selector) -> Option<Warning> {
-        match selector {
-            Selector::IpSource
-            | Selector::IpDestination
-            | Selector::IpProtocol
-            | Selector::IpTtl
-            | Selector::IpLength => self.read_ip(),
-            Selector::TcpSource | Selector::TcpDestination | Selector::TcpFlags => {
-                self.read_transport(TCP)
-            }
-            Selector::UdpSource | Selector::UdpDestination => self.read_transport(UDP),
-            Selector::IcmpType => {
+        match header_of(selector) {
+            Header::Ip => self.read_ip(),
+            Header::Tcp => self.read_transport(TCP),
+            Header::Udp => self.read_transport(UDP),
+            Header::Icmp => {
                 if matches!(self.network, Network::Any) && !self.has_transport() {
                     self.network = Network::Ipv4;
                 }
                 self.read_transport(ICMP)
             }
-            Selector::MetaFamily if !self.is_inet => Some(warning::FAMILY_IN_IP_TABLE),
-            _ => None,
+            Header::Meta if matches!(selector, Selector::MetaFamily) && !self.is_inet => {
+                Some(warning::FAMILY_IN_IP_TABLE)
+            }
+            Header::Meta | Header::Transport | Header::Ct => None,
         }
     }
 
@@ -86,31 +111,25 @@ impl Protocols {
         }
     }
 
-    fn read_transport(&mut self, protocol: u32) -> Option<Warning> {
-        let conflicts = (self.icmp && protocol != ICMP)
-            || (self.tcp && protocol != TCP)
-            || (self.udp && protocol != UDP)
-            || self.other;
+    fn read_transport(&mut self, protocol: u128) -> Option<Warning> {
         self.add_transport(protocol);
-        if conflicts {
-            Some(warning::PROTOCOL_CONFLICT)
-        } else {
-            None
+        match self.transport {
+            Transport::Several => Some(warning::PROTOCOL_CONFLICT),
+            Transport::None | Transport::One(_) => None,
         }
     }
 
-    fn add_transport(&mut self, protocol: u32) {
-        match protocol {
-            ICMP => self.icmp = true,
-            TCP => self.tcp = true,
-            UDP => self.udp = true,
-            _ => self.other = true,
-        }
+    fn add_transport(&mut self, protocol: u128) {
+        self.transport = match self.transport {
+            Transport::None => Transport::One(protocol),
+            Transport::One(known) if known == protocol => Transport::One(protocol),
+            Transport::One(_) | Transport::Several => Transport::Several,
+        };
     }
 
     /// Learns what a match with a value says.
     pub(crate) fn learn(&mut self, selector: Selector, value: &Value) {
-        let Some(number) = number_of(selector, value) else {
+        let Some(number) = number_of(value, selector.kind()) else {
             return;
         };
         match selector {
@@ -129,7 +148,7 @@ impl Protocols {
 
     /// Whether a match of the transport protocol was met.
     pub(crate) fn has_transport(self) -> bool {
-        self.icmp || self.tcp || self.udp || self.other
+        !matches!(self.transport, Transport::None)
     }
 
     /// What nft refuses of `snat` or `dnat`; `named` says whether `ip` is before its `to`.
@@ -137,22 +156,8 @@ impl Protocols {
         match self.network {
             Network::Ipv4 => None,
             Network::Ipv6 => Some(warning::NAT_OF_IPV6),
-            Network::Any | Network::Other => {
-                if named {
-                    None
-                } else {
-                    Some(warning::NAT_WITHOUT_FAMILY)
-                }
-            }
+            Network::Any | Network::Other if named => None,
+            Network::Any | Network::Other => Some(warning::NAT_WITHOUT_FAMILY),
         }
-    }
-}
-
-/// The number of a literal of a protocol or a family.
-pub(crate) fn number_of(selector: Selector, value: &Value) -> Option<u32> {
-    match value {
-        Value::Number(number) => u32::try_from(*number).ok(),
-        Value::Word(word) => selector.value_type()?.number_of(word),
-        _ => None,
     }
 }

@@ -1,89 +1,21 @@
 //! What nft(8) refuses of sets and maps.
 use crate::findings::Findings;
-use crate::intervals::{Coverage, interval_of, is_interval, is_interval_key, wildcard_stem};
-use crate::names::is_reserved_element;
-use crate::outline::{Outline, PartKind, Range};
-use crate::tokens::Tokens;
-use crate::warning;
+use crate::intervals::{Coverage, Interval, cover, is_interval, wildcard_stem};
+use crate::names::{is_reserved_element, is_reserved_interface};
+use crate::warning::{self, Warning};
 use nft_tree::{
-    ComparedType, Element, Item, Key, MapDecl, Pair, Ruleset, SetDecl, SetFlag, Table, Value,
-    ValueRange, ValueType,
+    ComparedType, Element, Key, MapDecl, Pair, SetDecl, SetFlag, Value, ValueRange, ValueType,
 };
+use node_spans::{TokenRange, anonymous_elements, elements};
+use std::alloc::{AllocError, Global};
 
 /// The most bytes before the `*` of an interface's name.
 const MOST_OF_STEM: usize = 14;
 
-/// The elements of a list, read up to a token.
-#[derive(Clone, Copy)]
-pub(crate) struct List<'a, 't> {
-    tokens: &'a Tokens<'t>,
-    part: Range,
-    at: usize,
-}
-
-impl<'a, 't> List<'a, 't> {
-    /// The list in the first braces of a part from a token on.
-    pub(crate) fn new(tokens: &'a Tokens<'t>, part: Range, from: usize) -> List<'a, 't> {
-        List {
-            tokens,
-            part,
-            at: part.find(tokens, from, b"{").unwrap_or(part.end),
-        }
-    }
-
-    /// The first token of the next element; that of the part where there is none.
-    fn next(&mut self) -> usize {
-        let mut is_next = false;
-        for index in self.at..self.part.end {
-            match self.tokens.bytes(index) {
-                b"{" | b"," => is_next = true,
-                b"}" => break,
-                b"\n" => {}
-                _ if is_next => {
-                    self.at = index.saturating_add(1);
-                    return index;
-                }
-                _ => {}
-            }
-        }
-        self.at = self.part.end;
-        self.part.start
-    }
-
-    /// The first token of the element of this number.
-    fn start(mut self, element: usize) -> usize {
-        for _ in 0..element {
-            self.next();
-        }
-        self.next()
-    }
-
-    /// Adds what nft refuses of a literal of an element, which begins at a token.
-    fn judge_value(self, value: &Value, start: usize, findings: &mut Findings<'_>) {
-        if is_long_wildcard(value) {
-            findings.add(self.tokens, start, warning::LONG_WILDCARD);
-        }
-        if let Value::Word(word) = value {
-            if is_reserved_element(word) {
-                let place = self.part.place_of(self.tokens, start, word);
-                findings.add(self.tokens, place, warning::RESERVED_NAME);
-            }
-        }
-    }
-}
-
-/// Whether the name of an interface has more before its `*` than nft takes.
-pub(crate) fn is_long_wildcard(value: &Value) -> bool {
-    match wildcard_stem(value) {
-        Some(stem) => stem.len() > MOST_OF_STEM,
-        None => false,
-    }
-}
-
 /// Whether values of the type are names of interfaces.
-pub(crate) fn is_interface(value_type: ComparedType) -> bool {
+pub(crate) fn is_interface(kind: ComparedType) -> bool {
     matches!(
-        value_type,
+        kind,
         ComparedType::Named(ValueType::InterfaceName | ValueType::InterfaceIndex)
     )
 }
@@ -106,7 +38,10 @@ impl Listed for Element {
     }
 
     fn is_interval(&self) -> bool {
-        is_interval_key(&self.key)
+        match &self.key {
+            Key::Single(range) => is_interval(range),
+            Key::Joined(values) => values.iter().any(|value| wildcard_stem(value).is_some()),
+        }
     }
 }
 
@@ -123,204 +58,166 @@ impl Listed for Pair {
 /// What a declaration says of its elements.
 #[derive(Clone, Copy)]
 struct Declared {
-    key: ComparedType,
+    kind: ComparedType,
+    /// How many there may be; none where nft doesn't look.
     size: Option<u64>,
     is_interval: bool,
-    is_constant: bool,
     /// Whether elements that overlap or touch are joined.
     is_merged: bool,
 }
 
-/// Adds the warnings about sets and maps.
-pub(crate) fn judge_sets(ruleset: &Ruleset, tokens: &Tokens<'_>, findings: &mut Findings<'_>) {
-    let mut outline = Outline::START;
-    for table in &ruleset.tables {
-        judge_table(table, tokens, &mut outline, findings);
-    }
-}
-
-/// Adds the warnings about a table's sets and maps, which are the next ones of the outline.
-fn judge_table(
-    table: &Table,
-    tokens: &Tokens<'_>,
-    outline: &mut Outline,
-    findings: &mut Findings<'_>,
-) {
-    for item in &table.items {
-        match item {
-            Item::Set(set) => {
-                let part = outline.next_or_empty(tokens, PartKind::Set);
-                judge_set(set, tokens, part, findings);
-            }
-            Item::Map(map) => {
-                let part = outline.next_or_empty(tokens, PartKind::Set);
-                judge_map(map, tokens, part, findings);
-            }
-            Item::Comment(_) | Item::Chain(_) => {}
-        }
-    }
-}
-
 fn has_flag(flags: &Option<Vec<SetFlag>>, wanted: SetFlag) -> bool {
-    let Some(flags) = flags else {
-        return false;
-    };
-    for flag in flags {
-        if *flag as u8 == wanted as u8 {
-            return true;
-        }
-    }
-    false
-}
-
-fn judge_set(set: &SetDecl, tokens: &Tokens<'_>, part: Range, findings: &mut Findings<'_>) {
-    let is_interval = has_flag(&set.flags, SetFlag::Interval);
-    if set.auto_merge && !is_interval {
-        let place = part.place_of(tokens, part.start, b"auto-merge");
-        findings.add(tokens, place, warning::AUTO_MERGE_WITHOUT_INTERVAL);
-    }
-    let declared = Declared {
-        key: set.key.kind(0).unwrap_or(ComparedType::Unnamed(0)),
-        size: set.size,
-        is_interval,
-        is_constant: has_flag(&set.flags, SetFlag::Constant),
-        is_merged: set.auto_merge,
-    };
-    if let Some(elements) = &set.elements {
-        elements_in(tokens, part).judge(declared, elements, findings);
+    match flags {
+        Some(flags) => flags.iter().any(|flag| *flag as u8 == wanted as u8),
+        None => false,
     }
 }
 
-fn judge_map(map: &MapDecl, tokens: &Tokens<'_>, part: Range, findings: &mut Findings<'_>) {
-    if map.auto_merge {
-        let place = part.place_of(tokens, part.start, b"auto-merge");
-        findings.add(tokens, place, warning::AUTO_MERGE_OF_MAP);
-    }
-    let declared = Declared {
-        key: map.types.key(),
-        size: map.size,
-        is_interval: has_flag(&map.flags, SetFlag::Interval),
-        is_constant: has_flag(&map.flags, SetFlag::Constant),
-        is_merged: false,
-    };
-    if let Some(pairs) = &map.elements {
-        elements_in(tokens, part).judge(declared, pairs, findings);
-    }
+/// The size of a set or a map that may be filled up.
+fn limit(size: Option<u64>, flags: &Option<Vec<SetFlag>>) -> Option<u64> {
+    size.filter(|size| *size != 0 && !has_flag(flags, SetFlag::Constant))
 }
 
-/// The elements of a set or a map.
-fn elements_in<'a, 't>(tokens: &'a Tokens<'t>, part: Range) -> List<'a, 't> {
-    let word = part.find_pair(tokens, part.start, b"elements", b"=");
-    List::new(tokens, part, word.unwrap_or(part.start))
-}
-
-/// The first element that nft takes for an interval.
-fn first_interval<E: Listed>(elements: &[E]) -> Option<usize> {
-    for (number, element) in elements.iter().enumerate() {
-        if element.is_interval() {
-            return Some(number);
-        }
-    }
-    None
-}
-
-/// How elements cover numbers; none where that isn't known.
+/// How elements cover numbers; none where that isn't known. Concatenations never overlap.
 fn coverage<E: Listed>(
+    alloc: Global,
     elements: &[E],
-    value_type: ComparedType,
-    findings: &mut Findings<'_>,
-) -> Option<Coverage> {
-    findings.begin_list();
+    kind: ComparedType,
+) -> Result<Option<Coverage>, AllocError> {
+    let mut intervals = Vec::with_capacity(alloc, elements.len())?;
     for (number, element) in elements.iter().enumerate() {
         let Some(range) = element.range() else {
-            return Some(distinct(elements.len()));
+            return Ok(Some(Coverage {
+                count: elements.len(),
+                joined: elements.len(),
+                overlapping: None,
+            }));
         };
-        findings.add_interval(interval_of(range, value_type, number)?);
+        let Some(interval) = Interval::of(range, kind, number) else {
+            return Ok(None);
+        };
+        intervals.push(interval)?;
     }
-    Some(findings.coverage())
+    Ok(Some(cover(&mut intervals)))
 }
 
-/// The coverage of so many concatenations.
-fn distinct(count: usize) -> Coverage {
-    Coverage {
-        count,
-        joined: count,
-        overlapping: None,
-    }
-}
-
-impl List<'_, '_> {
-    /// Adds what nft refuses of the elements of a declared set or map.
-    fn judge<E: Listed>(self, declared: Declared, elements: &[E], findings: &mut Findings<'_>) {
-        if !declared.is_interval {
-            self.judge_without_interval(first_interval(elements), findings);
+impl Findings<'_> {
+    /// Adds the warnings about a set.
+    pub(crate) fn judge_set(&mut self, set: &SetDecl, range: TokenRange) -> Result<(), AllocError> {
+        let declared = Declared {
+            kind: set.key.kind(0).unwrap_or(ComparedType::Unnamed(0)),
+            size: limit(set.size, &set.flags),
+            is_interval: has_flag(&set.flags, SetFlag::Interval),
+            is_merged: set.auto_merge,
+        };
+        if set.auto_merge && !declared.is_interval {
+            self.add_at_word(range, b"auto-merge", warning::AUTO_MERGE_WITHOUT_INTERVAL);
         }
-        self.judge_elements(elements, declared.key, findings);
-        let Some(covered) = coverage(elements, declared.key, findings) else {
-            return;
+        self.judge_declared(declared, &set.elements, range)
+    }
+
+    /// Adds the warnings about a map.
+    pub(crate) fn judge_map(&mut self, map: &MapDecl, range: TokenRange) -> Result<(), AllocError> {
+        let declared = Declared {
+            kind: map.types.key(),
+            size: limit(map.size, &map.flags),
+            is_interval: has_flag(&map.flags, SetFlag::Interval),
+            is_merged: false,
+        };
+        if map.auto_merge {
+            self.add_at_word(range, b"auto-merge", warning::AUTO_MERGE_OF_MAP);
+        }
+        self.judge_declared(declared, &map.elements, range)
+    }
+
+    /// Adds what nft refuses of a set or a map, and of its elements.
+    fn judge_declared<E: Listed>(
+        &mut self,
+        declared: Declared,
+        list: &Option<Vec<E>>,
+        range: TokenRange,
+    ) -> Result<(), AllocError> {
+        self.judge_braces(range, false);
+        let Some(list) = list else {
+            return Ok(());
+        };
+        let places = elements(self.alloc, self.tokens.all, range)?.unwrap_or(Vec::new(self.alloc));
+        if !declared.is_interval {
+            let first = list.iter().position(|element| element.is_interval());
+            self.add_at_element(&places, first, warning::NO_INTERVAL);
+        }
+        self.judge_literals(list, &places, declared.kind);
+        let Some(covered) = coverage(self.alloc, list, declared.kind)? else {
+            return Ok(());
         };
         if declared.is_interval && !declared.is_merged {
-            self.judge_overlap(covered, findings);
+            self.add_at_element(&places, covered.overlapping, warning::OVERLAP);
         }
         let count = if declared.is_merged {
             covered.joined
         } else {
             covered.count
         };
-        if !declared.is_constant {
-            self.judge_size(declared.size, count, findings);
+        if declared.size.is_some_and(|size| size < count as u64) {
+            self.add_at_word(range, b"size", warning::TOO_MANY_ELEMENTS);
+        }
+        Ok(())
+    }
+
+    /// Adds a warning at the element of this number, if there is one.
+    fn add_at_element(&mut self, places: &[TokenRange], element: Option<usize>, warning: Warning) {
+        if let Some(place) = element.and_then(|number| places.get(number)) {
+            self.add(place.first, warning);
         }
     }
 
-    fn judge_size(self, size: Option<u64>, count: usize, findings: &mut Findings<'_>) {
-        if let Some(size) = size {
-            if size != 0 && size < count as u64 {
-                let place = self.part.place_of(self.tokens, self.part.start, b"size");
-                findings.add(self.tokens, place, warning::TOO_MANY_ELEMENTS);
+    /// Adds what nft refuses of the literals of elements, which stand at these places.
+    fn judge_literals<E: Listed>(&mut self, list: &[E], places: &[TokenRange], kind: ComparedType) {
+        for (element, place) in list.iter().zip(places) {
+            if let Some(ValueRange::One(value)) = element.range() {
+                self.judge_literal(value, kind, place.first, true);
             }
         }
     }
 
-    fn judge_without_interval(self, element: Option<usize>, findings: &mut Findings<'_>) {
-        if let Some(element) = element {
-            findings.add(self.tokens, self.start(element), warning::NO_INTERVAL);
-        }
-    }
-
-    fn judge_overlap(self, covered: Coverage, findings: &mut Findings<'_>) {
-        if let Some(element) = covered.overlapping {
-            findings.add(self.tokens, self.start(element), warning::OVERLAP);
-        }
-    }
-
-    /// Adds what nft refuses of the literals of elements.
-    pub(crate) fn judge_elements<E: Listed>(
-        mut self,
-        elements: &[E],
-        value_type: ComparedType,
-        findings: &mut Findings<'_>,
+    /// Adds what nft refuses of a literal at a token, in a list or not: the name of an interface.
+    pub(crate) fn judge_literal(
+        &mut self,
+        value: &Value,
+        kind: ComparedType,
+        place: usize,
+        in_list: bool,
     ) {
-        if !is_interface(value_type) {
+        if !is_interface(kind) {
             return;
         }
-        for element in elements {
-            let start = self.next();
-            if let Some(ValueRange::One(value)) = element.range() {
-                self.judge_value(value, start, findings);
-            }
+        if wildcard_stem(value).is_some_and(|stem| stem.len() > MOST_OF_STEM) {
+            self.add(place, warning::LONG_WILDCARD);
+        }
+        if let Value::Word(word) = value
+            && (is_reserved_element(word) || (!in_list && is_reserved_interface(word)))
+        {
+            self.add(place, warning::RESERVED_NAME);
         }
     }
 
-    /// Adds what nft refuses of an anonymous map.
-    pub(crate) fn judge_anonymous_map(
-        self,
-        pairs: &[Pair],
-        key: ComparedType,
-        findings: &mut Findings<'_>,
-    ) {
-        self.judge_elements(pairs, key, findings);
-        if let Some(covered) = coverage(pairs, key, findings) {
-            self.judge_overlap(covered, findings);
+    /// Adds what nft refuses of the elements of an anonymous set or map of a statement.
+    pub(crate) fn judge_anonymous<E: Listed>(
+        &mut self,
+        list: &[E],
+        kind: ComparedType,
+        is_map: bool,
+        statement: TokenRange,
+    ) -> Result<(), AllocError> {
+        if list.is_empty() || !(is_map || is_interface(kind)) {
+            return Ok(());
         }
+        let places = anonymous_elements(self.alloc, self.tokens.all, statement)?;
+        let places = places.unwrap_or(Vec::new(self.alloc));
+        self.judge_literals(list, &places, kind);
+        if is_map && let Some(covered) = coverage(self.alloc, list, kind)? {
+            self.add_at_element(&places, covered.overlapping, warning::OVERLAP);
+        }
+        Ok(())
     }
 }

@@ -1,32 +1,31 @@
-//! The tokens of a ruleset's text, newlines among them, as nft(8) reads it.
+//! The tokens of a ruleset's text, newlines among them.
 use nft_lexer::{LexError, Token, TokenKind, lex};
+use node_spans::TokenRange;
 use std::alloc::{AllocError, Global};
+use std::ops::Range;
 
 /// A text with its tokens.
-#[derive(Drop)]
+#[derive(Clone, Copy)]
 pub(crate) struct Tokens<'a> {
     pub text: &'a [u8],
-    all: Vec<Token<'a>>,
+    pub all: &'a [Token<'a>],
+}
+
+/// The tokens of a text, where it can be read.
+pub(crate) fn lexed<'a>(
+    alloc: Global,
+    text: &'a [u8],
+) -> Result<Option<Vec<Token<'a>>>, AllocError> {
+    match lex(alloc, text) {
+        Ok(tokens) => Ok(Some(tokens)),
+        Err(LexError::Refused(_)) => Ok(None),
+        Err(LexError::Memory) => Err(AllocError),
+    }
 }
 
 impl<'a> Tokens<'a> {
-    /// The tokens of a text that can be read. A line that has only a comment has no newline.
-    pub(crate) fn read(alloc: Global, text: &'a [u8]) -> Result<Tokens<'a>, AllocError> {
-        let mut all = match lex(alloc, text) {
-            Ok(tokens) => tokens,
-            Err(LexError::Refused(_)) => Vec::new(alloc),
-            Err(LexError::Memory) => return Err(AllocError),
-        };
-        all.retain(|token| !ends_comment_line(text, token));
-        Ok(Tokens { text, all })
-    }
-
-    pub(crate) fn len(&self) -> usize {
-        self.all.len()
-    }
-
     /// The kind of a token; that of a newline at the end.
-    pub(crate) fn kind(&self, index: usize) -> TokenKind {
+    pub(crate) fn kind(self, index: usize) -> TokenKind {
         match self.all.get(index) {
             Some(token) => token.kind,
             None => TokenKind::NewLine,
@@ -34,33 +33,19 @@ impl<'a> Tokens<'a> {
     }
 
     /// The bytes of a token; none at the end.
-    pub(crate) fn bytes(&self, index: usize) -> &[u8] {
+    pub(crate) fn bytes(self, index: usize) -> &'a [u8] {
         match self.all.get(index) {
             Some(token) => token.text,
             None => &[],
         }
     }
 
-    pub(crate) fn is(&self, index: usize, bytes: &[u8]) -> bool {
+    pub(crate) fn is(self, index: usize, bytes: &[u8]) -> bool {
         self.bytes(index) == bytes
     }
 
-    pub(crate) fn is_newline(&self, index: usize) -> bool {
-        matches!(self.kind(index), TokenKind::NewLine)
-    }
-
-    /// The first string from a token on; the last token, where there is none before that.
-    pub(crate) fn find_string(&self, from: usize, last: usize) -> usize {
-        for index in from..last {
-            if matches!(self.kind(index), TokenKind::String) {
-                return index;
-            }
-        }
-        last
-    }
-
     /// Where a token begins; the end of the text at the end.
-    pub(crate) fn offset(&self, index: usize) -> usize {
+    pub(crate) fn offset(self, index: usize) -> usize {
         match self.all.get(index) {
             Some(token) => token.start,
             None => self.text.len(),
@@ -68,28 +53,28 @@ impl<'a> Tokens<'a> {
     }
 
     /// Whether a token follows the one before it directly, without blanks.
-    pub(crate) fn is_tight(&self, index: usize) -> bool {
-        match (self.all.get(index.saturating_sub(1)), self.all.get(index)) {
-            (Some(before), Some(token)) => {
-                index > 0 && before.start.saturating_add(before.text.len()) == token.start
-            }
-            _ => false,
-        }
+    pub(crate) fn is_tight(self, index: usize) -> bool {
+        let before = index.saturating_sub(1);
+        let end = self.offset(before).saturating_add(self.bytes(before).len());
+        before < index && index < self.all.len() && end == self.offset(index)
     }
-}
 
-/// Whether a token is the newline of a line that has only a comment.
-fn ends_comment_line(text: &[u8], token: &Token<'_>) -> bool {
-    if !matches!(token.kind, TokenKind::NewLine) {
-        return false;
+    /// Whether a token is the newline of a line that has only a comment: none for nft.
+    pub(crate) fn ends_comment_line(self, index: usize) -> bool {
+        let before = self.text.get(..self.offset(index)).unwrap_or(&[]);
+        let mut lines = before.rsplit(|byte| *byte == b'\n');
+        let line = lines.next().unwrap_or(&[]);
+        self.is(index, b"\n") && line.trim_ascii_start().starts_with(b"#")
     }
-    let mut first = b'\n';
-    for byte in text.get(..token.start).unwrap_or(&[]).iter().rev() {
-        match byte {
-            b'\n' => break,
-            b' ' | b'\t' => {}
-            _ => first = *byte,
-        }
+
+    /// The tokens of a declaration behind its opening brace.
+    pub(crate) fn inside(self, declaration: TokenRange) -> Range<usize> {
+        let open = (declaration.first..declaration.end).find(|index| self.is(*index, b"{"));
+        open.unwrap_or(declaration.end).saturating_add(1)..declaration.end
     }
-    first == b'#'
+
+    /// The first token of a declaration, behind its opening brace, that is this word.
+    pub(crate) fn find(self, declaration: TokenRange, word: &[u8]) -> Option<usize> {
+        self.inside(declaration).find(|index| self.is(*index, word))
+    }
 }

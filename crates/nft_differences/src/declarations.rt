@@ -1,0 +1,74 @@
+//! The tables, chains, sets and maps of a ruleset, each beside its tokens.
+use crate::findings::Findings;
+use crate::rules::Walk;
+use crate::warning;
+use nft_tree::{Chain, Item, Ruleset, Table};
+use node_spans::{TokenRange, items, rules, tables};
+use std::alloc::AllocError;
+
+impl Findings<'_> {
+    /// Adds the warnings of the ruleset that all of the tokens spell.
+    pub(crate) fn judge(&mut self, ruleset: &Ruleset) -> Result<(), AllocError> {
+        self.judge_tokens();
+        let places = tables(self.alloc, self.tokens.all)?.unwrap_or(Vec::new(self.alloc));
+        for (table, place) in ruleset.tables.iter().zip(&places) {
+            self.judge_table(table, *place)?;
+        }
+        self.judge_order();
+        Ok(())
+    }
+
+    fn judge_table(&mut self, table: &Table, range: TokenRange) -> Result<(), AllocError> {
+        let places = items(self.alloc, self.tokens.all, range)?.unwrap_or(Vec::new(self.alloc));
+        let nodes = table.items.iter().zip(&places);
+        let comments = nodes.filter(|(item, _)| matches!(item, Item::Comment(_)));
+        for (_, place) in comments.skip(1) {
+            self.add(place.first, warning::SECOND_COMMENT);
+        }
+        for (item, place) in table.items.iter().zip(&places) {
+            match item {
+                Item::Comment(_) => {}
+                Item::Chain(chain) => self.judge_chain(table, chain, *place)?,
+                Item::Set(set) => self.judge_set(set, *place)?,
+                Item::Map(map) => self.judge_map(map, *place)?,
+            }
+        }
+        self.judge_braces(range, false);
+        Ok(())
+    }
+
+    fn judge_chain(
+        &mut self,
+        table: &Table,
+        chain: &Chain,
+        range: TokenRange,
+    ) -> Result<(), AllocError> {
+        self.judge_notes(chain, range);
+        if let Some(head) = &chain.head {
+            self.judge_head(chain, head, range)?;
+        }
+        let places = rules(self.alloc, self.tokens.all, range)?.unwrap_or(Vec::new(self.alloc));
+        for (rule, place) in chain.rules.iter().zip(&places) {
+            Walk::new(self, table, chain, *place).judge(rule)?;
+        }
+        self.judge_braces(range, true);
+        Ok(())
+    }
+
+    /// Adds the warnings about comments of a chain that has one already. They stand before its
+    /// rules.
+    fn judge_notes(&mut self, chain: &Chain, range: TokenRange) {
+        let tokens = self.tokens;
+        let behind = match &chain.head {
+            Some(head) => head.notes.len(),
+            None => 0,
+        };
+        let notes = tokens
+            .inside(range)
+            .filter(|index| tokens.is(*index, b"comment"))
+            .take(chain.notes.len().saturating_add(behind));
+        for note in notes.skip(1) {
+            self.add(note, warning::SECOND_COMMENT);
+        }
+    }
+}
