@@ -1,8 +1,9 @@
 //! Explains a fault: what its code means, where it is, and what to do.
-use crate::place_advice::put_place_advice;
+use crate::place_advice::{put_place_advice, put_token_advice};
 use box_file::BoxFault;
-use fault_location::{Fault, Sources, check_place, faulty_line, text_place};
-use fault_places::{enclosing_description, show};
+use fault_location::{Fault, Sources, check_place, faulty_line, lexical_place, syntax_place};
+use fault_places::{Outline, show};
+use nft_lexer::{LexError, LexFault, lex};
 use nft_parser::TextFault;
 use rule_check::CheckFault;
 use rules_advice::{put_advice_on_box, put_advice_on_rules};
@@ -44,28 +45,53 @@ fn put_place(
     lines: &mut String,
 ) -> Result<(), AllocError> {
     match fault {
-        Fault::Text(fault) => {
-            put_place_in_text(alloc, sources.paths.rules, sources.rules, fault, lines)
-        }
+        Fault::Text(TextFault::Lexical(fault)) => put_place_of_token(alloc, fault, sources, lines),
+        Fault::Text(fault) => put_place_in_text(alloc, fault, sources, lines),
         Fault::Check(fault) => put_place_in_rules(alloc, fault, sources, lines),
         Fault::Box(fault) => put_place_in_box(alloc, fault, sources, lines),
         Fault::Capture(_) => Ok(()),
     }
 }
 
-/// Writes where a fault of a ruleset's text is, and what to do.
-fn put_place_in_text(
+/// Writes where what is no token begins, and what to do.
+fn put_place_of_token(
     alloc: Global,
-    path: &str,
-    text: &[u8],
-    fault: TextFault,
+    fault: LexFault,
+    sources: Sources<'_>,
     lines: &mut String,
 ) -> Result<(), AllocError> {
-    let Some(place) = text_place(alloc, text, fault)? else {
+    let text = sources.rules;
+    let Some(offset) = lexical_place(text, fault) else {
         return Ok(());
     };
-    show(alloc, lines, path, text, place.offset())?;
-    put_place_advice(alloc, text, fault, place, lines)
+    show(alloc, lines, sources.paths.rules, text, offset)?;
+    put_token_advice(alloc, text, fault, offset, lines)
+}
+
+/// Writes where the grammar doesn't allow a ruleset, and what to do.
+fn put_place_in_text(
+    alloc: Global,
+    fault: TextFault,
+    sources: Sources<'_>,
+    lines: &mut String,
+) -> Result<(), AllocError> {
+    let text = sources.rules;
+    let tokens = match lex(alloc, text) {
+        Ok(tokens) => tokens,
+        Err(LexError::Refused(_)) => return Ok(()),
+        Err(LexError::Memory) => return Err(AllocError),
+    };
+    let Some(place) = syntax_place(alloc, &tokens, fault)? else {
+        return Ok(());
+    };
+    show(
+        alloc,
+        lines,
+        sources.paths.rules,
+        text,
+        place.offset(&tokens),
+    )?;
+    put_place_advice(alloc, text, &tokens, fault, place, lines)
 }
 
 /// Writes where a fault of a ruleset as a whole is, and what to do.
@@ -107,7 +133,7 @@ fn put_enclosing(
     offset: usize,
     lines: &mut String,
 ) -> Result<(), AllocError> {
-    let around = enclosing_description(alloc, text, offset)?;
+    let around = Outline::of(alloc, text)?.description(alloc, offset)?;
     if around.is_empty() {
         return Ok(());
     }

@@ -1,36 +1,33 @@
-//! What to do at the place of a fault.
+//! What to do at the place of a fault of a ruleset's text.
 use crate::shape_advice::put_brace_advice;
 use crate::stop::Stop;
 use crate::token_advice::token_advice;
 use crate::word_advice::put_syntax_advice;
-use fault_location::{TextPlace, UnreadablePart};
-use fault_places::{Span, Words, bytes_of, position_at, rest_from, shown};
-use nft_lexer::LexFault;
+use fault_location::SyntaxPlace;
+use fault_places::{Span, bytes_of, position_at, rest_from, shown};
+use nft_lexer::{LexFault, Token};
 use nft_parser::TextFault;
 use std::alloc::{AllocError, Global};
 
-/// Writes what to do about a fault of a ruleset's text at its place, if it is known.
-pub fn put_place_advice(
+/// Writes what to do where the grammar doesn't allow a ruleset, if it is known.
+pub fn put_place_advice<'a>(
     alloc: Global,
-    text: &[u8],
+    text: &'a [u8],
+    tokens: &'a [Token<'a>],
     fault: TextFault,
-    place: TextPlace,
+    place: SyntaxPlace,
     lines: &mut String,
 ) -> Result<(), AllocError> {
-    match (place, fault) {
-        (TextPlace::Token(offset), TextFault::Lexical(fault)) => {
-            put_token_advice(alloc, text, fault, offset, lines)
+    match place {
+        SyntaxPlace::Brace(brace) => put_brace_advice(alloc, text, tokens, brace, lines),
+        SyntaxPlace::Part { at, part } => {
+            put_syntax_advice(&Stop::new(alloc, text, tokens, part, at, fault)?, lines)
         }
-        (TextPlace::Brace(brace), _) => put_brace_advice(alloc, text, brace, lines),
-        (TextPlace::Part { offset, unreadable }, _) => {
-            put_syntax_advice(&Stop::new(alloc, text, unreadable, offset)?, lines)
-        }
-        _ => Ok(()),
     }
 }
 
 /// Writes what to do about a lexical fault at an offset.
-fn put_token_advice(
+pub fn put_token_advice(
     alloc: Global,
     text: &[u8],
     fault: LexFault,
@@ -41,18 +38,29 @@ fn put_token_advice(
         return Ok(());
     }
     let rest = rest_from(text, offset);
-    let words = Words::of(alloc, text, rest)?;
     let before = Span {
         start: position_at(text, offset).start,
         end: offset,
+    };
+    let word = Span {
+        start: offset,
+        end: offset.saturating_add(length_of_group(bytes_of(text, rest))),
     };
     match token_advice(
         fault,
         shown(text, before),
         bytes_of(text, rest),
-        words.get(0),
+        shown(text, word),
     ) {
         Some(advice) => advice.put(alloc, lines),
         None => Ok(()),
     }
+}
+
+/// How many bytes digits, letters and dots have at the start of some bytes.
+fn length_of_group(bytes: &[u8]) -> usize {
+    bytes
+        .iter()
+        .position(|byte| !byte.is_ascii_alphanumeric() && *byte != b'.')
+        .unwrap_or(bytes.len())
 }

@@ -4,30 +4,35 @@ use advice::{
     Advice, COMMENT_MARK, Gap, NO_GAP, OF_IPTABLES, ONLY_IPV4, Place, filled, fixed, groups_advice,
     left_out, lists, with_text, with_texts, with_words, write_this,
 };
-use fault_places::{Level, OpenBrace, Span, Words, bytes_of, position_at, rest_from, shown, up_to};
+use fault_places::{Span, Words, bytes_of, position_at, rest_from, shown};
+use nft_lexer::Token;
 use std::alloc::{AllocError, Global};
+use unread_parts::{OpenBrace, PartKind};
 
 /// Writes what to do about a brace that is left open: of what, on which line, and the word on a line
 /// before which it has to be closed.
 pub fn put_brace_advice(
     alloc: Global,
     text: &[u8],
+    tokens: &[Token<'_>],
     brace: OpenBrace,
     lines: &mut String,
 ) -> Result<(), AllocError> {
-    if brace.offset > text.len() || brace.seen > text.len() {
+    let (Some(open), Some(seen)) = (tokens.get(brace.brace), tokens.get(brace.seen)) else {
+        return Ok(());
+    };
+    if open.start > text.len() || seen.start > text.len() {
         return Ok(());
     }
-    let at = position_at(text, brace.offset);
+    let at = position_at(text, open.start);
     let before = Span {
         start: at.start,
-        end: brace.offset,
+        end: open.start,
     };
-    let before = Words::of(alloc, text, before)?;
-    let seen = Words::of(alloc, text, rest_from(text, brace.seen))?;
-    let of = words_in(text, &before);
-    let seen_line = position_at(text, brace.seen).line;
-    brace_advice(of, at.line, seen.get(0), seen_line).put(alloc, lines)
+    let of = words_in(text, &Words::of(alloc, text, before)?);
+    let seen_line = position_at(text, seen.start).line;
+    let seen = str::from_utf8(seen.text).unwrap_or("");
+    brace_advice(of, at.line, seen, seen_line).put(alloc, lines)
 }
 
 /// What to do about a brace of these words, which is open at another word; each is on a line.
@@ -48,7 +53,7 @@ fn brace_advice<'a>(of: &'a str, line: usize, seen: &'a str, seen_line: usize) -
 
 /// Words as they stand there.
 fn words_in<'a>(text: &'a [u8], words: &Words<'_>) -> &'a str {
-    match (words.spans.first(), words.spans.last()) {
+    match (words.span(0), words.span(words.len().saturating_sub(1))) {
         (Some(first), Some(last)) => shown(
             text,
             Span {
@@ -81,7 +86,7 @@ pub fn shape_advice<'a>(stop: &Stop<'a>) -> Option<Advice<'a>> {
     let unread = unread_target(stop.before(2), before, here).or(unread_order(stop));
     match other_language(stop).or(misplaced(stop)).or(unread) {
         Some(sentence) => Some(fixed(sentence)),
-        None => groups_advice(here).or(pair_advice(stop, before, here)),
+        None => groups_advice(address_around(stop)).or(pair_advice(stop, before, here)),
     }
 }
 
@@ -93,7 +98,7 @@ fn other_language(stop: &Stop<'_>) -> Option<&'static str> {
     }
     let is_option = before == "-" && matches!(here.as_bytes(), [b'-'] | [b'a'..=b'z']);
     let is_line = stop.at == 0 && lists("- : iptables iptables-restore COMMIT", here);
-    if stop.unreadable.level != Level::Sets && (is_option || is_line) {
+    if !matches!(stop.part.kind, PartKind::Element | PartKind::Pair) && (is_option || is_line) {
         return Some(OF_IPTABLES);
     }
     None
@@ -160,11 +165,11 @@ fn length_advice<'a>(mask: &str) -> Advice<'a> {
 
 /// What to do about an address of IPv6, and about what stands in a chain or a table in a wrong place.
 fn misplaced(stop: &Stop<'_>) -> Option<&'static str> {
-    if has_many_colons(run_around(stop.text, stop.offset)) {
+    if has_many_colons(run_around(stop.text, stop.offset())) {
         return Some(ONLY_IPV4);
     }
     match (stop.words.get(0), stop.here()) {
-        ("chain" | "set" | "map", _) if stop.unreadable.level == Level::Tables => {
+        ("chain" | "set" | "map", _) if stop.part.kind == PartKind::Tables => {
             Some("It stands in no table: take out the `}` that ends the table too early.")
         }
         ("chain", "comment") => Some("Write a comment at the end of its rule."),
@@ -223,20 +228,11 @@ pub fn is_list(stop: &Stop<'_>) -> bool {
 pub fn put_list_advice(stop: &Stop<'_>, lines: &mut String) -> Result<bool, AllocError> {
     let values = values_from(stop)?.join(stop.alloc, ", ")?;
     let list = ["{ ", values.as_str(), " }"].concat(stop.alloc)?;
-    let is_allowed = stop.allows_behind(before_value(stop), list.as_str(), "")?;
+    let is_allowed = stop.allows_in_place(list.as_str())?;
     if is_allowed {
         write_this(list.as_str()).put(stop.alloc, lines)?;
     }
     Ok(is_allowed)
-}
-
-/// What stands before the value before the place.
-fn before_value(stop: &Stop<'_>) -> Span {
-    let start = match stop.words.spans.get(stop.at.saturating_sub(1)) {
-        Some(word) => word.start,
-        None => 0,
-    };
-    up_to(stop.unreadable.part, start)
 }
 
 /// The values from the one before the place on, without the commas between them.
@@ -256,6 +252,16 @@ fn values_from<'a>(stop: &Stop<'a>) -> Result<Vec<&'a str>, AllocError> {
 /// Whether a word is a number, an address or a string.
 fn is_value(word: &str) -> bool {
     matches!(word.as_bytes(), [b'0'..=b'9' | b'"', ..])
+}
+
+/// What is written around the place for an address, without its length.
+fn address_around<'a>(stop: &Stop<'a>) -> &'a str {
+    let run = run_around(stop.text, stop.offset());
+    str::from_utf8(run)
+        .unwrap_or("")
+        .split('/')
+        .next()
+        .unwrap_or("")
 }
 
 /// The bytes around an offset up to the next blanks.

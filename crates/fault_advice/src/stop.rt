@@ -1,50 +1,56 @@
 //! The place at which the grammar stops in a part of a ruleset, and what it allows there.
-use fault_location::{UnreadablePart, Wrapper, open_braces};
-use fault_places::{Level, Span, Words, bytes_of, part_around, rest_from, spans, up_to};
+use advice::Kind;
+use fault_location::SyntaxPlace;
+use fault_places::Words;
+use nft_lexer::{Token, TokenKind};
+use nft_parser::TextFault;
 use std::alloc::{AllocError, Global};
+use unread_parts::{Part, PartKind, open_braces};
 
-/// The longest prefix of a part that is tried with other words behind it, in bytes.
-const MOST_BYTES: usize = 4096;
+/// The longest start of a part that is tried with other words behind it, in tokens.
+const MOST_TOKENS: usize = 1024;
 
 /// The place at which the grammar stops in a part.
 #[derive(Drop)]
 pub struct Stop<'a> {
     pub alloc: Global,
     pub text: &'a [u8],
-    pub unreadable: UnreadablePart,
-    pub offset: usize,
+    pub tokens: &'a [Token<'a>],
+    pub part: Part,
+    /// The token at the place.
+    pub token: usize,
     pub words: Words<'a>,
     /// The number of the word at the place.
     pub at: usize,
     /// How many words the grammar allows: an unsupported word may stand behind others that it
     /// doesn't.
     pub allowed: usize,
-    /// The chain around a rule's first word.
-    chain: Option<Span>,
 }
 
 impl<'a> Stop<'a> {
-    /// The place at an offset of a part.
+    /// The place at a token of a part.
     pub fn new(
         alloc: Global,
         text: &'a [u8],
-        unreadable: UnreadablePart,
-        offset: usize,
+        tokens: &'a [Token<'a>],
+        part: Part,
+        token: usize,
+        fault: TextFault,
     ) -> Result<Stop<'a>, AllocError> {
-        let words = Words::of(alloc, text, unreadable.part)?;
-        let at = words.count_before(offset);
-        let chain = chain_around(alloc, text, unreadable.level, at, offset)?;
-        let (wrapper, part) = (unreadable.wrapper, unreadable.part);
-        let allowed = wrapper.longest_prefix(alloc, text, part, &words.spans)?;
+        let refused = if fault == TextFault::Unsupported {
+            part.first_refused(alloc, tokens)?
+        } else {
+            token
+        };
         Ok(Stop {
             alloc,
             text,
-            unreadable,
-            offset,
-            words,
-            at,
-            allowed: allowed.min(at),
-            chain,
+            tokens,
+            part,
+            token,
+            words: Words::among(alloc, part.tokens_before(tokens, part.end))?,
+            at: words_among(part.tokens_before(tokens, token)),
+            allowed: words_among(part.tokens_before(tokens, refused.min(token))),
         })
     }
 
@@ -58,75 +64,79 @@ impl<'a> Stop<'a> {
         self.words.before(self.at, places)
     }
 
+    /// How many bytes of the text come before the place.
+    pub fn offset(&self) -> usize {
+        let at = self.token;
+        SyntaxPlace::Part {
+            at,
+            part: self.part,
+        }
+        .offset(self.tokens)
+    }
+
     pub fn is_in_rule(&self) -> bool {
-        self.unreadable.level == Level::Rules
+        self.part.kind == PartKind::Rule
     }
 
     /// Whether a brace is open at the place.
     pub fn is_in_braces(&self) -> bool {
-        open_braces(&self.words, self.at) > 0
+        open_braces(self.start(), 0) > 0
     }
 
     /// What stands before the place.
-    pub fn start(&self) -> Span {
-        up_to(self.unreadable.part, self.offset)
+    fn start(&self) -> &'a [Token<'a>] {
+        self.part.tokens_before(self.tokens, self.token)
     }
 
     /// Whether the grammar allows a word, with another one behind it, at the place: in its part, or,
     /// where that begins here, in its chain.
     pub fn allows(&self, word: &str, next: &str) -> Result<bool, AllocError> {
-        if self.allows_behind(self.start(), word, next)? {
+        if self.is_allowed(self.part.kind, self.start(), word, next)? {
             return Ok(true);
         }
-        match self.chain {
-            Some(chain) => {
-                self.is_prefix(Wrapper::Declaration, up_to(chain, self.offset), word, next)
+        match self.part.item {
+            Some(item) if self.is_in_rule() && self.at == 0 => {
+                let chain = self.tokens.get(item..self.token).unwrap_or(&[]);
+                self.is_allowed(PartKind::Item, chain, word, next)
             }
-            None => Ok(false),
+            _ => Ok(false),
         }
     }
 
-    /// Whether the grammar allows a word, with another one behind it, behind the start of the part.
-    pub fn allows_behind(&self, start: Span, word: &str, next: &str) -> Result<bool, AllocError> {
-        self.is_prefix(self.unreadable.wrapper, start, word, next)
+    /// Whether the grammar allows a text in place of the word before the place.
+    pub fn allows_in_place(&self, text: &str) -> Result<bool, AllocError> {
+        let before = self.start().len().saturating_sub(1);
+        let start = self.start().get(..before).unwrap_or(&[]);
+        self.is_allowed(self.part.kind, start, text, "")
     }
 
     /// Whether some ending completes the start of a part with two words behind it.
-    fn is_prefix(
+    fn is_allowed(
         &self,
-        wrapper: Wrapper,
-        start: Span,
+        kind: PartKind,
+        start: &[Token<'a>],
         word: &str,
         next: &str,
     ) -> Result<bool, AllocError> {
-        let before = bytes_of(self.text, start);
-        if before.len() > MOST_BYTES {
+        if start.len() > MOST_TOKENS {
             return Ok(false);
         }
-        let blank = " ".as_bytes();
-        let pieces = [before, blank, word.as_bytes(), blank, next.as_bytes()];
-        let prefix = pieces.concat(self.alloc)?;
-        let words = Words::of(self.alloc, &prefix, rest_from(&prefix, 0))?;
-        wrapper.is_prefix(self.alloc, &prefix, open_braces(&words, words.len()))
+        let text = [" ", word, " ", next].concat(self.alloc)?;
+        kind.allows(self.alloc, start, text.as_str())
     }
 
-    /// Those of some words, with a blank between two, that the grammar allows at the place, with another
-    /// one behind them.
-    pub fn allowed_of(
-        &self,
-        words: &'static str,
-        next: &str,
-    ) -> Result<Vec<&'static str>, AllocError> {
+    /// The words of a kind that the grammar allows at the place, with another one behind them.
+    pub fn allowed_of(&self, kind: Kind, next: &str) -> Result<Vec<&'static str>, AllocError> {
         let mut allowed = Vec::new(self.alloc);
-        for word in words.split(' ') {
+        for word in &kind.words(self.alloc)? {
             if self.allows(word, next)? {
-                allowed.push(word)?;
+                allowed.push(*word)?;
             }
         }
         Ok(allowed)
     }
 
-    /// The first of them.
+    /// The first of some words, with a blank between two, that the grammar allows in the same way.
     pub fn first_allowed(
         &self,
         words: &'static str,
@@ -140,32 +150,35 @@ impl<'a> Stop<'a> {
         Ok(None)
     }
 
-    /// Whether there is a word of this number without which the part can be read.
-    pub fn reads_without(&self, number: usize) -> Result<bool, AllocError> {
-        let Some(word) = self.words.spans.get(number) else {
+    /// Whether there is a word so many places before the place without which the part can be read.
+    pub fn reads_without(&self, places: usize) -> Result<bool, AllocError> {
+        let part = self.part;
+        let Some(left_out) = self.token.checked_sub(places) else {
             return Ok(false);
         };
-        let part = self.unreadable.part;
-        let behind = Span {
-            start: word.end,
-            end: part.end,
-        };
-        let before = bytes_of(self.text, up_to(part, word.start));
-        let without = [before, bytes_of(self.text, behind)].concat(self.alloc)?;
-        self.unreadable.wrapper.reads(self.alloc, &without)
+        if left_out < part.first || part.end <= left_out {
+            return Ok(false);
+        }
+        let before = part.tokens_before(self.tokens, left_out);
+        let behind = self
+            .tokens
+            .get(left_out.saturating_add(1)..part.end)
+            .unwrap_or(&[]);
+        let without = [before, behind].concat(self.alloc)?;
+        if part.start < part.first {
+            return part.kind.allows(self.alloc, &without, "");
+        }
+        part.kind.reads_with(self.alloc, &without, "")
     }
 }
 
-/// The chain around the first word of a rule.
-fn chain_around(
-    alloc: Global,
-    text: &[u8],
-    level: Level,
-    at: usize,
-    offset: usize,
-) -> Result<Option<Span>, AllocError> {
-    if level != Level::Rules || at != 0 {
-        return Ok(None);
+/// How many tokens are no newlines.
+fn words_among(tokens: &[Token<'_>]) -> usize {
+    let mut count = 0usize;
+    for token in tokens {
+        if !matches!(token.kind, TokenKind::NewLine) {
+            count = count.saturating_add(1);
+        }
     }
-    Ok(part_around(&spans(alloc, text, Level::Declarations)?, offset))
+    count
 }

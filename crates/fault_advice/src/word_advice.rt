@@ -2,8 +2,8 @@
 use crate::shape_advice::{is_list, left_out_advice, names_advice, put_list_advice, shape_advice};
 use crate::stop::Stop;
 use advice::{
-    Advice, DID_YOU_MEAN, DID_YOU_MEAN_ONE_OF, Gap, NO_GAP, changes, filled, first_of, kinds,
-    lists, one_of, otherwise, with_text, with_texts, words_of, write_this,
+    Advice, DID_YOU_MEAN, DID_YOU_MEAN_ONE_OF, Gap, Kind, NO_GAP, begins_statement, changes,
+    filled, kinds, lists, one_of, otherwise, with_text, with_texts, write_this,
 };
 use std::alloc::{AllocError, Global};
 
@@ -55,7 +55,7 @@ fn put_count_advice(stop: &Stop<'_>, lines: &mut String) -> Result<(), AllocErro
 struct Meant {
     word: &'static str,
     changes: usize,
-    kind: Option<&'static str>,
+    kind: Option<Kind>,
 }
 
 /// The first one of the words that may be meant which the grammar allows.
@@ -99,10 +99,10 @@ fn add_others(here: &str, found: &mut Vec<Meant>) -> Result<(), AllocError> {
 fn add_near(
     alloc: Global,
     written: &str,
-    kind: &'static str,
+    kind: Kind,
     found: &mut Vec<Meant>,
 ) -> Result<(), AllocError> {
-    for word in kind.split(' ') {
+    for &word in &kind.words(alloc)? {
         if let Some(changes) = changes(alloc, written, word)? {
             found.push(Meant {
                 word,
@@ -140,7 +140,7 @@ fn count_advice<'a>(stop: &Stop<'a>) -> Result<Option<Advice<'a>>, AllocError> {
     if begins_statement(here) && stop.first_allowed(VALUES, here)?.is_some() {
         return Ok(Some(value_before(here)));
     }
-    let marks = stop.allowed_of(MARKS, here)?;
+    let marks = stop.allowed_of(Kind::Listed(MARKS), here)?;
     match missing_mark(stop.before(1), here, &marks) {
         Some(advice) => Ok(Some(advice)),
         None => missing_word(stop),
@@ -193,10 +193,9 @@ fn something_behind<'a>(before: &'a str) -> Advice<'a> {
 
 /// The word at the place or the one before, where the part can be read without it.
 fn surplus_advice<'a>(stop: &Stop<'a>) -> Result<Option<Advice<'a>>, AllocError> {
-    for number in [stop.at, stop.at.saturating_sub(1)] {
-        if stop.reads_without(number)? {
-            let word = stop.words.get(number);
-            return Ok(Some(with_text("Take `{}` out.", word)));
+    for places in 0..2 {
+        if stop.reads_without(places)? {
+            return Ok(Some(with_text("Take `{}` out.", stop.before(places))));
         }
     }
     Ok(None)
@@ -218,21 +217,11 @@ fn expected_words(stop: &Stop<'_>) -> Result<Vec<&'static str>, AllocError> {
     let mut words = Vec::new(stop.alloc);
     for &kind in &kinds(stop.alloc)? {
         // Where the first one may stand.
-        if stop.allows(first_of(kind), "")? {
+        if stop.allows(kind.words(stop.alloc)?.first().copied().unwrap_or(""), "")? {
             words.extend_from_slice(&stop.allowed_of(kind, "")?)?;
         }
     }
     words.sort()?;
     words.dedup();
     Ok(words)
-}
-
-/// Whether a word begins a statement.
-fn begins_statement(word: &str) -> bool {
-    for kind in ["verdict", "statement", "header", "interface"] {
-        if lists(words_of(kind), word) {
-            return true;
-        }
-    }
-    false
 }

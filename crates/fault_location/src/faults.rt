@@ -1,6 +1,5 @@
 //! The faults of a ruleset, of a box file and of a capture.
 use box_file::{BoxError, BoxFault, Plant};
-use nft_lexer::LexFault;
 use nft_parser::{ParseError, TextFault, parse};
 use nft_tree::Ruleset;
 use pcap_io::CaptureFault;
@@ -32,39 +31,19 @@ impl Fault {
     }
 }
 
-/// Whether a fault is one of the ruleset as a whole that no rule has alone: it is listed once.
-pub fn is_ruleset_wide(fault: CheckFault) -> bool {
-    matches!(
-        fault,
-        CheckFault::TooDeep | CheckFault::TooCostly | CheckFault::TooLarge
-    )
+/// The paths of a ruleset and of a box file, as they are reported.
+#[derive(Clone, Copy)]
+pub struct SourcePaths<'a> {
+    pub rules: &'a str,
+    pub plant: &'a str,
 }
 
-/// Whether two faults are the same one.
-pub fn is_same(one: CheckFault, two: CheckFault) -> bool {
-    one as u8 == two as u8
-}
-
-/// The line of a lexical fault, from 1; a text that is too long has none.
-pub fn line_of(fault: LexFault) -> Option<u32> {
-    match fault {
-        LexFault::Byte { line } | LexFault::OpenString { line } | LexFault::Number { line } => {
-            Some(line)
-        }
-        LexFault::TooLong => None,
-    }
-}
-
-/// The fault of a ruleset's text; none where it can be parsed.
-///
-/// # Errors
-/// `AllocError` for want of memory.
-pub fn text_fault(alloc: Global, text: &[u8]) -> Result<Option<TextFault>, AllocError> {
-    match parse(alloc, text) {
-        Ok(_) => Ok(None),
-        Err(ParseError::Refused(fault)) => Ok(Some(fault)),
-        Err(ParseError::Memory) => Err(AllocError),
-    }
+/// A ruleset and a box file, as they were read.
+#[derive(Clone, Copy)]
+pub struct Sources<'a> {
+    pub paths: SourcePaths<'a>,
+    pub rules: &'a [u8],
+    pub plant: &'a [u8],
 }
 
 /// A ruleset, where its text can be parsed.

@@ -1,21 +1,14 @@
-//! Locates faults in a ruleset or a box file, for diagnostics, and lists all of them.
+//! Locates faults in a ruleset or a box file, for diagnostics.
 //!
-//! Locations are a heuristic: no contract says which one is reported.
+//! No contract says at which word of a faulty part a fault is shown.
 #![tactic(auto)]
 
 mod box_place;
-mod fault_list;
 mod faults;
 mod node_place;
-mod node_search;
-mod syntax_place;
-mod unreadable;
-mod wrapper;
+mod text_place;
 
 pub use box_place::faulty_line;
-pub use fault_list::{SourcePaths, Sources, all_faults};
-pub use faults::Fault;
-pub use node_place::check_place;
-pub use syntax_place::{TextPlace, text_place};
-pub use unreadable::UnreadablePart;
-pub use wrapper::{Wrapper, open_braces};
+pub use faults::{Fault, SourcePaths, Sources, box_fault, read_box};
+pub use node_place::{check_place, is_of_data, pairs_in, shown_word};
+pub use text_place::{SyntaxPlace, lexical_place, place_in, syntax_place};

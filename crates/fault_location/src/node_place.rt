@@ -3,7 +3,7 @@ use crate::faults::{read_box, read_rules};
 use box_file::Plant;
 use fault_nodes::{Node, declarations, ruleset_between, ruleset_parts};
 use fault_places::{Span, bytes_of};
-use fault_spans::fault_span;
+use fault_spans::{FaultSpan, fault_span};
 use nft_lexer::{Punctuator, Token, TokenKind, lex};
 use nft_tree::{
     Data, DestinationTarget, Item, MapRef, Nat, Operand, Pair, Ruleset, SourceTarget, Stmt, Value,
@@ -17,26 +17,42 @@ use std::alloc::{AllocError, Global};
 /// # Errors
 /// `AllocError` for want of memory.
 pub fn check_place(alloc: Global, text: &[u8], plant: &[u8]) -> Result<Option<Span>, AllocError> {
-    let (Some(tree), Some(plant)) = (read_rules(alloc, text)?, read_box(alloc, plant)?) else {
+    match (read_rules(alloc, text)?, read_box(alloc, plant)?) {
+        (Some(tree), Some(plant)) => place_in_tree(alloc, text, &tree, &plant),
+        _ => Ok(None),
+    }
+}
+
+/// The word of the node with which a ruleset gets its fault.
+fn place_in_tree(
+    alloc: Global,
+    text: &[u8],
+    tree: &Ruleset,
+    plant: &Plant,
+) -> Result<Option<Span>, AllocError> {
+    let likely = likely_position(alloc, tree, plant)?;
+    let Some(found) = fault_span(alloc, text, plant, likely)? else {
         return Ok(None);
     };
-    let likely = likely_position(alloc, &tree, &plant)?;
-    let Some(found) = fault_span(alloc, text, &plant, likely)? else {
+    let part = found.position.saturating_sub(declarations(tree));
+    let is_of_data = is_of_data(alloc, tree, plant, part, found.fault)?;
+    word_in(alloc, text, found, is_of_data)
+}
+
+/// The word of a node at which its fault is shown.
+fn word_in(
+    alloc: Global,
+    text: &[u8],
+    found: FaultSpan,
+    is_of_data: bool,
+) -> Result<Option<Span>, AllocError> {
+    let node = Span {
+        start: found.start,
+        end: found.end,
+    };
+    let Ok(tokens) = lex(alloc, bytes_of(text, node)) else {
         return Ok(None);
     };
-    let node = bytes_of(
-        text,
-        Span {
-            start: found.start,
-            end: found.end,
-        },
-    );
-    let Ok(tokens) = lex(alloc, node) else {
-        return Ok(None);
-    };
-    let part = found.position.saturating_sub(declarations(&tree));
-    let alone = ruleset_between(alloc, &tree, part, part.saturating_add(1))?;
-    let is_of_data = is_of_data(alloc, &alone, &plant, found.fault)?;
     let word = shown_word(found.node, found.fault, is_of_data, &tokens);
     Ok(Some(Span {
         start: word.start.saturating_add(found.start),
@@ -60,33 +76,45 @@ fn likely_position(alloc: Global, tree: &Ruleset, plant: &Plant) -> Result<usize
     Ok(declarations(tree).saturating_add(start))
 }
 
-/// Whether the fault of an element of a map is one of its data: with no other data has it the fault.
-/// The ruleset has no part but this element.
+/// Whether the fault of a part of a ruleset, an element of a map, is one of its data: with no other
+/// data has it the fault.
 ///
 /// # Errors
 /// `AllocError` for want of memory.
 pub fn is_of_data(
     alloc: Global,
-    alone: &Ruleset,
+    tree: &Ruleset,
     plant: &Plant,
+    part: usize,
     fault: CheckFault,
 ) -> Result<bool, AllocError> {
     match fault {
-        CheckFault::Contradiction | CheckFault::TooLarge => return Ok(false),
-        CheckFault::TypeMismatch | CheckFault::WrongValue | CheckFault::NoSuchInterface => {}
-        _ => return Ok(true),
+        CheckFault::Contradiction | CheckFault::TooLarge => Ok(false),
+        CheckFault::TypeMismatch | CheckFault::WrongValue | CheckFault::NoSuchInterface => {
+            let mut alone = ruleset_between(alloc, tree, part, part.saturating_add(1))?;
+            is_right_with_other_data(alloc, &mut alone, plant, fault)
+        }
+        _ => Ok(true),
     }
-    for data in [
-        Data::Verdict(Verdict::Accept),
-        Data::Value(Value::Address(0)),
-        Data::Value(Value::Number(0)),
-    ] {
-        let mut other = alone.try_clone()?;
-        let Some(pair) = first_pair(&mut other) else {
+}
+
+/// Whether a ruleset with one part alone, an element of a map, hasn't the fault with some other data.
+fn is_right_with_other_data(
+    alloc: Global,
+    alone: &mut Ruleset,
+    plant: &Plant,
+    fault: CheckFault,
+) -> Result<bool, AllocError> {
+    for number in 0..3 {
+        let Some(pair) = first_pair(alone) else {
             return Ok(false);
         };
-        pair.value = data;
-        if !fails_so_early(alloc, &other, plant, fault)? {
+        pair.value = match number {
+            0 => Data::Verdict(Verdict::Accept),
+            1 => Data::Value(Value::Address(0)),
+            _ => Data::Value(Value::Number(0)),
+        };
+        if !fails_so_early(alloc, alone, plant, fault)? {
             return Ok(true);
         }
     }

@@ -1,7 +1,9 @@
-//! The tables, declarations and rules of a ruleset's text, found by braces.
+//! The tables, declarations and rules of a ruleset's text, found by braces and ends of lines.
 ghost use Rattle.std.specs.Prelude.{IfOk, length};
 ghost use Rattle.fault_places.specs.Within.{AllWithin};
 
+use crate::part::tokens_of;
+use nft_lexer::{Punctuator, Token, TokenKind};
 use std::alloc::{AllocError, Global};
 
 /// A part of a text: byte offsets, `end` exclusive.
@@ -23,193 +25,122 @@ pub(crate) fn add_within(parts: &mut Vec<Span>, text: &[u8], part: Span) -> Resu
 }
 
 /// A level of nesting in a ruleset.
-#[derive(Clone, Copy, PartialEq)]
+#[derive(Clone, Copy)]
 pub enum Level {
-    /// The rules of chains: what is two braces deep, except `type`, `policy` and `comment`.
-    Rules,
-    /// The sets and maps of tables.
-    Sets,
-    /// The chains, sets and maps of tables: what is one brace deep.
-    Declarations,
     /// The tables: what is in no brace.
     Tables,
+    /// The chains, sets and maps of tables: what is one brace deep.
+    Declarations,
+    /// The rules of chains: what is two braces deep, except `type`, `policy` and `comment`.
+    Rules,
 }
 
-/// The state of a scan at an offset.
+impl Level {
+    /// How many braces its parts are in.
+    fn depth(self) -> usize {
+        match self {
+            Level::Tables => 0,
+            Level::Declarations => 1,
+            Level::Rules => 2,
+        }
+    }
+}
+
+/// The parts of a level around a token.
 #[derive(Clone, Copy)]
 struct Scan {
+    level: usize,
     depth: usize,
-    quotes: Quotes,
-    /// Where the table, the declaration and the rule around the offset begin.
-    table: Option<usize>,
-    declaration: Option<usize>,
-    rule: Option<usize>,
-}
-
-/// Whether a scan is within a string or a comment.
-#[derive(Clone, Copy)]
-pub struct Quotes {
-    quoted: bool,
-    comment: bool,
-}
-
-impl Quotes {
-    pub const NONE: Quotes = Quotes {
-        quoted: false,
-        comment: false,
-    };
-
-    /// Consumes a byte, and returns whether it belongs to a string or a comment.
-    pub fn skips(&mut self, byte: u8) -> bool {
-        if byte == b'\n' {
-            *self = Quotes::NONE;
-            return false;
-        }
-        if self.comment {
-            return true;
-        }
-        if byte == b'"' {
-            self.quoted = !self.quoted;
-            return true;
-        }
-        if byte == b'#' && !self.quoted {
-            self.comment = true;
-            return false;
-        }
-        self.quoted
-    }
+    /// Where the part begins around the token.
+    open: Option<usize>,
+    /// Where the declaration begins around it, and whether that is a chain.
+    item: Option<usize>,
+    is_chain: bool,
+    is_note: bool,
 }
 
 impl Scan {
-    const START: Scan = Scan {
-        depth: 0,
-        quotes: Quotes::NONE,
-        table: None,
-        declaration: None,
-        rule: None,
-    };
-
-    /// A part may begin at this offset.
-    fn begin(&mut self, offset: usize) {
-        if self.depth == 0 && self.table.is_none() {
-            self.table = Some(offset);
-        }
-        if self.depth == 1 && self.declaration.is_none() {
-            self.declaration = Some(offset);
-        }
-        if self.depth == 2 && self.rule.is_none() {
-            self.rule = Some(offset);
+    fn new(level: Level) -> Scan {
+        Scan {
+            level: level.depth(),
+            depth: 0,
+            open: None,
+            item: None,
+            is_chain: false,
+            is_note: false,
         }
     }
 
-    /// The part that ends before this offset, at a line's end or a semicolon.
-    fn separate(&mut self, level: Level, offset: usize) -> Option<Span> {
-        let (start, own) = match self.depth {
-            0 => (self.table.take(), Level::Tables),
-            1 => (self.declaration.take(), Level::Declarations),
-            2 => (self.rule.take(), Level::Rules),
-            _ => return None,
-        };
-        if own == level {
-            part(start, offset)
+    /// A part may begin with this token.
+    fn begin(&mut self, token: &Token<'_>) {
+        if self.depth == 1 && self.item.is_none() {
+            self.item = Some(token.start);
+            self.is_chain = token.text == b"chain".as_slice();
+        }
+        if self.depth == self.level && self.open.is_none() {
+            self.open = Some(token.start);
+            self.is_note = is_note(token.text);
+        }
+    }
+
+    /// Ends what is in so many braces, and returns it if it is a part of the level.
+    fn end(&mut self, depth: usize, end: usize) -> Option<Span> {
+        let is_wanted = depth < 2 || (self.is_chain && !self.is_note);
+        if depth == 1 {
+            self.item = None;
+        }
+        if depth != self.level {
+            return None;
+        }
+        let start = self.open.take()?;
+        if is_wanted {
+            Some(Span { start, end })
         } else {
             None
         }
     }
 
-    /// The part that ends with the brace at this offset. A brace that closes nothing is a part by
-    /// itself.
-    fn close(&mut self, level: Level, offset: usize) -> Option<Span> {
-        let depth = self.depth;
-        let behind = offset.saturating_add(1);
+    /// Closes a brace at an offset. One that closes nothing is a table by itself.
+    fn close(&mut self, token: &Token<'_>) -> Option<Span> {
+        let (depth, behind) = (self.depth, token.start.saturating_add(1));
+        if depth == 0 {
+            self.begin(token);
+            return self.end(0, behind);
+        }
         self.depth = depth.saturating_sub(1);
-        match (depth, level) {
-            (0, Level::Tables) => Some(Span {
-                start: self.table.take().unwrap_or(offset),
-                end: behind,
-            }),
-            (1, _) => self.close_table(level, behind),
-            (2, _) => self.close_declaration(level, offset),
-            _ => None,
+        let inner = self.end(depth, token.start);
+        if depth > 2 {
+            return inner;
         }
+        inner.or(self.end(self.depth, behind))
     }
 
-    fn close_table(&mut self, level: Level, behind: usize) -> Option<Span> {
-        let left = part(self.declaration.take(), behind.saturating_sub(1));
-        let table = part(self.table.take(), behind);
-        match level {
-            Level::Declarations => left,
-            Level::Tables => table,
-            _ => None,
-        }
-    }
-
-    fn close_declaration(&mut self, level: Level, offset: usize) -> Option<Span> {
-        let rule = part(self.rule.take(), offset);
-        let declaration = part(self.declaration.take(), offset.saturating_add(1));
-        match level {
-            Level::Rules => rule,
-            Level::Sets | Level::Declarations => declaration,
-            Level::Tables => None,
-        }
-    }
-
-    /// Consumes the byte at an offset, and returns the part that ends there.
-    fn step(&mut self, level: Level, byte: u8, offset: usize) -> Option<Span> {
-        if self.quotes.skips(byte) {
-            if byte == b'"' {
-                self.begin(offset);
+    /// Takes a token, and returns the part of the level that ends there.
+    fn step(&mut self, token: &Token<'_>) -> Option<Span> {
+        match token.kind {
+            TokenKind::NewLine | TokenKind::Punctuator(Punctuator::Semicolon) => {
+                self.end(self.depth, token.start)
             }
-            return None;
-        }
-        match byte {
-            b'{' => {
-                self.begin(offset);
+            TokenKind::Punctuator(Punctuator::CloseBrace) => self.close(token),
+            TokenKind::Punctuator(Punctuator::OpenBrace) => {
+                self.begin(token);
                 self.depth = self.depth.saturating_add(1);
                 None
             }
-            b'}' => self.close(level, offset),
-            b'\n' | b';' | b'#' => self.separate(level, offset),
-            b' ' | b'\t' | b'\r' => None,
             _ => {
-                self.begin(offset);
+                self.begin(token);
                 None
             }
         }
     }
 }
 
-fn part(start: Option<usize>, end: usize) -> Option<Span> {
-    Some(Span { start: start?, end })
+/// Whether a line of a chain that begins so is none of its rules.
+fn is_note(word: &[u8]) -> bool {
+    word == b"type".as_slice() || word == b"policy".as_slice() || word == b"comment".as_slice()
 }
 
-/// Whether a text has this word at an offset.
-pub fn has_at(text: &[u8], offset: usize, word: &[u8]) -> bool {
-    offset <= text.len() && text[offset..].starts_with(word)
-}
-
-/// Whether a part two braces deep is a rule: in a chain, and not its `type`, `policy` or `comment`.
-fn is_rule(text: &[u8], declaration: Option<usize>, start: usize) -> bool {
-    let in_chain = match declaration {
-        Some(offset) => has_at(text, offset, b"chain"),
-        None => false,
-    };
-    in_chain
-        && !has_at(text, start, b"type ")
-        && !has_at(text, start, b"policy ")
-        && !has_at(text, start, b"comment ")
-}
-
-/// Whether a part of the text is of the level.
-fn is_wanted(text: &[u8], level: Level, declaration: Option<usize>, start: usize) -> bool {
-    match level {
-        Level::Rules => is_rule(text, declaration, start),
-        Level::Sets => has_at(text, start, b"set ") || has_at(text, start, b"map "),
-        Level::Declarations | Level::Tables => true,
-    }
-}
-
-/// The parts of a level in a text, in order.
+/// The parts of a level in a ruleset, in order, up to what is no token; the last one may be open.
 ///
 /// # Errors
 /// `AllocError` for want of memory.
@@ -218,15 +149,14 @@ pub fn spans(alloc: Global, text: &[u8], level: Level) -> Result<Vec<Span>, Allo
     ensures { IfOk result (λ parts. AllWithin (length text.entry.now) parts.items) }
 {
     let mut parts = Vec::new(alloc);
-    let mut scan = Scan::START;
-    for (offset, byte) in text.iter().enumerate() {
-        let declaration = scan.declaration;
-        let Some(part) = scan.step(level, *byte, offset) else {
-            continue;
-        };
-        if is_wanted(text, level, declaration, part.start) {
+    let mut scan = Scan::new(level);
+    for token in &tokens_of(alloc, text)? {
+        if let Some(part) = scan.step(token) {
             add_within(&mut parts, text, part)?;
         }
+    }
+    if let Some(part) = scan.end(level.depth(), text.len()) {
+        add_within(&mut parts, text, part)?;
     }
     Ok(parts)
 }

@@ -2,23 +2,23 @@
 ghost use Rattle.std.specs.Prelude.{IfOk, length};
 ghost use Rattle.fault_places.specs.Within.{AllWithin};
 
-use crate::brace_parts::{Level, Span, add_within, has_at};
+use crate::brace_parts::{Level, Span, add_within};
 use std::alloc::{AllocError, Global};
 
 /// Whether a line is of a level: `interface` lines are declarations, the `default` line is a table,
 /// and all others are rules.
 fn is_wanted(text: &[u8], level: Level, start: usize) -> bool {
-    let declares = has_at(text, start, b"interface");
+    let line = text.get(start..).unwrap_or(&[]);
+    let (declares, is_default) = (line.starts_with(b"interface"), line.starts_with(b"default"));
     match level {
-        Level::Rules => !declares && !has_at(text, start, b"default"),
+        Level::Rules => !declares && !is_default,
         Level::Declarations => declares,
-        Level::Sets => false,
-        Level::Tables => has_at(text, start, b"default"),
+        Level::Tables => is_default,
     }
 }
 
 /// The lines of a level in a box file, in order: at `Rules` all but its `interface` and `default`
-/// lines, at `Declarations` the `interface` lines, at `Tables` the `default` line, at `Sets` none.
+/// lines, at `Declarations` the `interface` lines, at `Tables` the `default` line.
 ///
 /// # Errors
 /// `AllocError` for want of memory.

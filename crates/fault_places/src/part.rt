@@ -1,6 +1,6 @@
 //! Parts of a text, as bytes and as words.
 use crate::brace_parts::Span;
-use crate::tokens::words;
+use nft_lexer::{LexError, Token, TokenKind, fault_start, lex};
 use std::alloc::{AllocError, Global};
 
 /// The bytes of a part; none where it doesn't lie within the text.
@@ -47,29 +47,51 @@ pub fn part_around(parts: &[Span], offset: usize) -> Option<Span> {
     None
 }
 
-/// The words, strings, numbers and marks of a part, as text.
+/// The words, strings, numbers and marks of a part of a ruleset, as text; no newlines.
 #[derive(Drop)]
 pub struct Words<'a> {
-    text: &'a [u8],
-    pub spans: Vec<Span>,
+    tokens: Vec<Token<'a>>,
 }
 
 impl<'a> Words<'a> {
-    /// The words of a part.
+    /// The words of a part, up to what is no token.
     ///
     /// # Errors
     /// `AllocError` for want of memory.
     pub fn of(alloc: Global, text: &'a [u8], part: Span) -> Result<Words<'a>, AllocError> {
-        let spans = words(alloc, text, part)?;
-        Ok(Words { text, spans })
+        let mut tokens = tokens_of(alloc, bytes_of(text, part))?;
+        for token in &mut tokens {
+            token.start = token.start.saturating_add(part.start);
+        }
+        tokens.retain(is_word);
+        Ok(Words { tokens })
+    }
+
+    /// The words among some tokens.
+    ///
+    /// # Errors
+    /// `AllocError` for want of memory.
+    pub fn among(alloc: Global, tokens: &[Token<'a>]) -> Result<Words<'a>, AllocError> {
+        let mut tokens = tokens.to_vec(alloc)?;
+        tokens.retain(is_word);
+        Ok(Words { tokens })
     }
 
     /// The word of a number, from 0; empty where there is none.
     pub fn get(&self, number: usize) -> &'a str {
-        match self.spans.get(number) {
-            Some(word) => shown(self.text, *word),
+        match self.tokens.get(number) {
+            Some(token) => str::from_utf8(token.text).unwrap_or(""),
             None => "",
         }
+    }
+
+    /// The bytes of a word.
+    pub fn span(&self, number: usize) -> Option<Span> {
+        let token = self.tokens.get(number)?;
+        Some(Span {
+            start: token.start,
+            end: token.start.saturating_add(token.text.len()),
+        })
     }
 
     /// The word so many places before a number; empty where there is none.
@@ -81,25 +103,17 @@ impl<'a> Words<'a> {
     }
 
     pub fn len(&self) -> usize {
-        self.spans.len()
-    }
-
-    /// Where the last word begins; the given offset where there is none.
-    pub fn last_start_or(&self, offset: usize) -> usize {
-        match self.spans.last() {
-            Some(last) => last.start,
-            None => offset,
-        }
+        self.tokens.len()
     }
 
     /// How many words begin before an offset.
     pub fn count_before(&self, offset: usize) -> usize {
-        for (number, word) in self.spans.iter().enumerate() {
-            if offset <= word.start {
+        for (number, token) in self.tokens.iter().enumerate() {
+            if offset <= token.start {
                 return number;
             }
         }
-        self.spans.len()
+        self.tokens.len()
     }
 
     /// The number of a word, where it is one of those before a number.
@@ -121,4 +135,22 @@ impl<'a> Words<'a> {
     pub fn has(&self, wanted: &str) -> bool {
         self.has_before(self.len(), wanted)
     }
+}
+
+/// The tokens of a text, up to what is none.
+pub(crate) fn tokens_of(alloc: Global, text: &[u8]) -> Result<Vec<Token<'_>>, AllocError> {
+    let known = Span {
+        start: 0,
+        end: fault_start(text),
+    };
+    match lex(alloc, bytes_of(text, known)) {
+        Ok(tokens) => Ok(tokens),
+        Err(LexError::Refused(_)) => Ok(Vec::new(alloc)),
+        Err(LexError::Memory) => Err(AllocError),
+    }
+}
+
+/// Whether a token is no newline.
+fn is_word(token: &Token<'_>) -> bool {
+    !matches!(token.kind, TokenKind::NewLine)
 }

@@ -1,6 +1,4 @@
-//! Shows a place in a text: its line with a caret, and what is around it.
-use crate::enclosing::{EnclosingItems, enclosing_items};
-use crate::part::Words;
+//! Shows a place in a text: its line with a caret.
 use crate::position::position_at;
 use std::alloc::{AllocError, Global};
 
@@ -40,48 +38,4 @@ fn caret(alloc: Global, before: &[u8]) -> Result<String, AllocError> {
     }
     line.push('^')?;
     Ok(line)
-}
-
-/// The table, chain and rule around an offset of a ruleset: `table ip filter, chain input, rule 3`.
-pub fn enclosing_description(
-    alloc: Global,
-    text: &[u8],
-    offset: usize,
-) -> Result<String, AllocError> {
-    let mut line = String::new(alloc);
-    let EnclosingItems {
-        table,
-        declaration,
-        rule,
-    } = enclosing_items(alloc, text, offset)?;
-    if let Some(table) = table {
-        describe_table(&mut line, &Words::of(alloc, text, table)?)?;
-    }
-    if line.is_empty() {
-        return Ok(line);
-    }
-    if let Some(declaration) = declaration {
-        describe_declaration(&mut line, &Words::of(alloc, text, declaration)?)?;
-    }
-    if let Some(rule) = rule {
-        write!(line, ", rule {rule}")?;
-    }
-    Ok(line)
-}
-
-/// Writes a table's family (by default ip) and name; nothing of a part that is no table.
-fn describe_table(line: &mut String, words: &Words<'_>) -> Result<(), AllocError> {
-    match (words.get(0), words.get(2), words.get(3)) {
-        ("table", name, "{") => write!(line, "table {} {name}", words.get(1)),
-        ("table", "{", _) => write!(line, "table ip {}", words.get(1)),
-        _ => Ok(()),
-    }
-}
-
-/// Writes the kind and name of a chain, a set or a map.
-fn describe_declaration(line: &mut String, words: &Words<'_>) -> Result<(), AllocError> {
-    if words.len() > 1 {
-        write!(line, ", {} {}", words.get(0), words.get(1))?;
-    }
-    Ok(())
 }

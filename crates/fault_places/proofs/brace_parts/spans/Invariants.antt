@@ -2,5 +2,5 @@ use Rattle.std.proofs.Common.{length}
 use Rattle.fault_places.specs.Within.{AllWithin}
 use Rattle.fault_places.proofs.brace_parts.spans.Given as goal
 
-abbrev pub invariant-loop-offset : goal.invariant-loop-offset
-invariant-loop-offset l = AllWithin (length l.text) l.parts.items
+abbrev pub invariant-loop-token : goal.invariant-loop-token
+invariant-loop-token l = AllWithin (length l.text) l.parts.items

@@ -1,8 +1,7 @@
 //! All faults of a ruleset that can be read, found on its tree by halves of its parts.
 use crate::fault_list::MOST;
-use crate::faults::{is_ruleset_wide, is_same};
-use crate::node_place::{is_of_data, pairs_in};
 use box_file::Plant;
+use fault_location::{is_of_data, pairs_in};
 use fault_nodes::{FaultyNode, Node, first_fault, node_of_part, ruleset_between, ruleset_parts};
 use nft_tree::{Item, Match, Rule, Ruleset, SetRef, Stmt};
 use rule_check::{CheckFault, least_fault};
@@ -77,9 +76,13 @@ impl<'a> NodeSearch<'a> {
             removed: Vec::new(alloc),
             is_partial: false,
         };
-        search.search_declarations()?;
-        search.search_parts()?;
+        search.run()?;
         Ok(search)
+    }
+
+    fn run(&mut self) -> Result<(), AllocError> {
+        self.search_declarations()?;
+        self.search_parts()
     }
 
     /// Takes out the declarations that are refused without rules and elements.
@@ -216,8 +219,7 @@ impl<'a> NodeSearch<'a> {
 
     /// Lists the fault of a part, takes that out, and returns how many parts are gone with it.
     fn list(&mut self, part: usize, fault: CheckFault) -> Result<usize, AllocError> {
-        let alone = ruleset_between(self.alloc, &self.tree, part, part.saturating_add(1))?;
-        let is_of_data = is_of_data(self.alloc, &alone, self.plant, fault)?;
+        let is_of_data = is_of_data(self.alloc, &self.tree, self.plant, part, fault)?;
         let Some(node) = self.node(part) else {
             return Ok(0);
         };
@@ -322,6 +324,19 @@ impl<'a> NodeSearch<'a> {
         self.is_partial = self.is_partial || has_parts;
         Ok(())
     }
+}
+
+/// Whether a fault is one of the ruleset as a whole that no rule has alone: it is listed once.
+fn is_ruleset_wide(fault: CheckFault) -> bool {
+    matches!(
+        fault,
+        CheckFault::TooDeep | CheckFault::TooCostly | CheckFault::TooLarge
+    )
+}
+
+/// Whether two faults are the same one.
+fn is_same(one: CheckFault, two: CheckFault) -> bool {
+    one as u8 == two as u8
 }
 
 /// Takes a rule, a statement or an element out.

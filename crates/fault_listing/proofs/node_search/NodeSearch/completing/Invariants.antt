@@ -1,5 +1,5 @@
 use Rattle.std.proofs.Common.{◌-◌, ◌<◌}
-use Rattle.fault_location.proofs.node_search.NodeSearch.completing.Given as goal
+use Rattle.fault_listing.proofs.node_search.NodeSearch.completing.Given as goal
 
 abbrev pub invariant-loop-with : goal.invariant-loop-with
 invariant-loop-with l = l.without < l.with
