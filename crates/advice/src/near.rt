@@ -13,7 +13,7 @@ pub fn changes(alloc: Global, word: &str, other: &str) -> Result<Option<usize>, 
     }
     let found = osa_distance(alloc, word, other)?;
     let is_near = found <= word.len().div_ceil(3) && found < other.len();
-    Ok(if is_near { Some(found) } else { None })
+    Ok(is_near.then_some(found))
 }
 
 /// The nearest of some words.
@@ -25,11 +25,10 @@ pub fn nearest<'a>(
     let mut nearest = None;
     let mut fewest = usize::MAX;
     for &other in others {
-        if let Some(changes) = changes(alloc, word, other)? {
-            if changes < fewest {
-                nearest = Some(other);
-                fewest = changes;
-            }
+        if let Some(changes) = changes(alloc, word, other)?
+            && changes < fewest
+        {
+            (nearest, fewest) = (Some(other), changes);
         }
     }
     Ok(nearest)

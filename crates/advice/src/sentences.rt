@@ -167,10 +167,8 @@ pub fn with_text<'a>(sentence: &'static str, text: &'a str) -> Advice<'a> {
 
 /// A sentence with a word in each of its two gaps.
 pub fn with_texts<'a>(sentence: &'static str, first: &'a str, second: &'a str) -> Advice<'a> {
-    filled(
-        sentence,
-        [Gap::Text(first), Gap::Text(second), NO_GAP, NO_GAP],
-    )
+    let gaps = [Gap::Text(first), Gap::Text(second), NO_GAP, NO_GAP];
+    filled(sentence, gaps)
 }
 
 /// This is to be written in place of what stands there.
@@ -196,18 +194,14 @@ pub fn one_of<'a>(words: Gap<'a>) -> Advice<'a> {
 
 /// The greatest number of a type, or of something else.
 pub fn greatest_is<'a>(of: Gap<'a>, most: u64) -> Advice<'a> {
-    filled(
-        "The greatest {} is {}.",
-        [of, Gap::Number(most), NO_GAP, NO_GAP],
-    )
+    let gaps = [of, Gap::Number(most), NO_GAP, NO_GAP];
+    filled("The greatest {} is {}.", gaps)
 }
 
 /// A type takes no such value, but this.
 pub fn no_value<'a>(of: ComparedType, instead: &'a str) -> Advice<'a> {
-    filled(
-        "This is no {}: write {}.",
-        [Gap::Type(of), Gap::Text(instead), NO_GAP, NO_GAP],
-    )
+    let gaps = [Gap::Type(of), Gap::Text(instead), NO_GAP, NO_GAP];
+    filled("This is no {}: write {}.", gaps)
 }
 
 /// An address has four groups.

@@ -25,14 +25,9 @@ pub const COMMENT_MARK: &str = "A comment begins with `#`.";
 
 /// What to do about a word at a place, where it isn't read there.
 pub fn left_out(word: &str, place: Place<'_>) -> Option<&'static str> {
-    let there = if place.is_in_rule {
-        in_rule(word, place.is_behind_log)
-    } else {
-        outside_rules(word)
-    };
     behind(place.before, word)
         .or(field_of(place.before, word))
-        .or(there)
+        .or(there(word, place))
         .or(instead_of(word.as_bytes()))
 }
 
@@ -98,30 +93,34 @@ fn field_of(header: &str, word: &str) -> Option<&'static str> {
         ),
         _ => return None,
     };
-    if lists(fields, word) {
-        Some(sentence)
-    } else {
-        None
-    }
+    lists(fields, word).then_some(sentence)
 }
 
-/// What to do about a word that isn't read in a rule.
-fn in_rule(word: &str, is_behind_log: bool) -> Option<&'static str> {
-    Some(match word {
-        "level" | "group" | "snaplen" | "queue-threshold" | "flags" if is_behind_log => {
-            "Of `log`, `prefix` alone is read: take the option out."
+/// What to do about a word that isn't read in a rule, or outside of rules.
+fn there(word: &str, place: Place<'_>) -> Option<&'static str> {
+    Some(match (place.is_in_rule, word) {
+        (false, "device" | "devices") => "Chains stand at no device: take it out.",
+        (false, "counter" | "secmark") => {
+            "There are no named objects: take it out, and write `counter` in the rules."
         }
-        "add" | "update" | "delete" => {
+        (false, "last" | "ipsec" | "tunnel") => "It isn't read: take it out.",
+        // A command, as `list`.
+        (false, "flush") => return instead_of(b"list"),
+        (true, "level" | "group" | "snaplen" | "queue-threshold" | "flags")
+            if place.is_behind_log => { "Of `log`, `prefix` alone is read: take the option out." }
+        (true, "add" | "update" | "delete") => {
             "Rules don't change sets: take the statement out, and list what is in the set as `elements`."
         }
-        "meter" => "Meters aren't read: take it out up to its `}`, or the rule.",
-        "sctp" | "dccp" | "udplite" | "esp" | "ah" | "comp" | "igmp" | "gre" => {
+        (true, "meter") => "Meters aren't read: take it out up to its `}`, or the rule.",
+        (true, "sctp" | "dccp" | "udplite" | "esp" | "ah" | "comp" | "igmp" | "gre") => {
             "This header isn't read: compare `ip protocol`."
         }
-        "xt" => "Matches of iptables aren't read: write them as nft's.",
-        "ctstate" | "conntrack" => "Write `ct state`.",
-        "frag" | "exthdr" | "hbh" | "dst" | "mh" | "srh" => ONLY_IPV4,
-        _ if lists(UNREAD_MATCHES, word) => "It isn't read: take the match out, or the rule.",
+        (true, "xt") => "Matches of iptables aren't read: write them as nft's.",
+        (true, "ctstate" | "conntrack") => "Write `ct state`.",
+        (true, "frag" | "exthdr" | "hbh" | "dst" | "mh" | "srh") => ONLY_IPV4,
+        (true, _) if lists(UNREAD_MATCHES, word) => {
+            "It isn't read: take the match out, or the rule."
+        }
         _ => return None,
     })
 }
@@ -129,17 +128,3 @@ fn in_rule(word: &str, is_behind_log: bool) -> Option<&'static str> {
 /// What begins matches in rules that aren't read, and `last`.
 const UNREAD_MATCHES: &str =
     "skuid skgid pkttype cpu cgroup iifgroup oifgroup iiftype oiftype rtclassid last ipsec tunnel exists missing";
-
-/// What to do about a word that isn't read elsewhere.
-fn outside_rules(word: &str) -> Option<&'static str> {
-    Some(match word {
-        "device" | "devices" => "Chains stand at no device: take it out.",
-        "counter" | "secmark" => {
-            "There are no named objects: take it out, and write `counter` in the rules."
-        }
-        "last" | "ipsec" | "tunnel" => "It isn't read: take it out.",
-        // A command, as `list`.
-        "flush" => return instead_of(b"list"),
-        _ => return None,
-    })
-}

@@ -148,11 +148,8 @@ pub(crate) fn names<'a, T>(
     alloc: Global,
     table: &[(&'static [u8], T)],
 ) -> Result<Vec<&'a str>, AllocError> {
-    let mut all = Vec::new(alloc);
-    for row in table {
-        all.push(str::from_utf8(row.0).unwrap_or(""))?;
-    }
-    Ok(all)
+    let names = table.iter().map(|row| str::from_utf8(row.0).unwrap_or(""));
+    names.collect(alloc)
 }
 
 /// Whether a word is one of the names in a table.

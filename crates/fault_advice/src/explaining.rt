@@ -1,7 +1,12 @@
 //! Explains a fault: what its code means, where it is, and what to do.
-use crate::place_advice::{put_place_advice, put_token_advice};
+use crate::shape_advice::{brace_advice, run_around};
+use crate::stop::Stop;
+use crate::token_advice::token_advice;
+use crate::word_advice::put_syntax_advice;
 use box_file::BoxFault;
-use fault_location::{Fault, Sources, check_place, faulty_line, lexical_place, syntax_place};
+use fault_location::{
+    Fault, Sources, SyntaxPlace, check_place, faulty_line, lexical_place, syntax_place,
+};
 use fault_places::{Outline, show};
 use nft_lexer::{LexError, LexFault, lex};
 use nft_parser::TextFault;
@@ -18,124 +23,97 @@ use std::alloc::{AllocError, Global};
 /// `AllocError` for want of memory.
 pub fn explained(alloc: Global, fault: Fault, sources: Sources<'_>) -> Result<String, AllocError> {
     let mut lines = String::new(alloc);
-    put_meaning(alloc, fault, &mut lines)?;
-    put_place(alloc, fault, sources, &mut lines)?;
+    if let Some(found) = explanations::explain(fault.code(alloc)?.as_str()) {
+        writeln!(lines, "{}", found.sentence)?;
+    }
+    Explaining { alloc, sources }.put_place(fault, &mut lines)?;
     Ok(lines)
 }
 
-/// Writes what a fault's code means.
-fn put_meaning(alloc: Global, fault: Fault, lines: &mut String) -> Result<(), AllocError> {
-    match explanations::explain(fault.code(alloc)?.as_str()) {
-        Some(found) => put_line(lines, found.sentence),
-        None => Ok(()),
+/// What was read.
+#[derive(Clone, Copy)]
+struct Explaining<'a> {
+    alloc: Global,
+    sources: Sources<'a>,
+}
+
+impl<'a> Explaining<'a> {
+    /// Writes where a fault is, and what to do.
+    fn put_place(self, fault: Fault, lines: &mut String) -> Result<(), AllocError> {
+        match fault {
+            Fault::Text(TextFault::Lexical(fault)) => self.put_place_of_token(fault, lines),
+            Fault::Text(fault) => self.put_place_in_text(fault, lines),
+            Fault::Check(fault) => self.put_place_in_rules(fault, lines),
+            Fault::Box(fault) => self.put_place_in_box(fault, lines),
+            Fault::Capture(_) => Ok(()),
+        }
     }
-}
 
-/// Writes a line.
-fn put_line(lines: &mut String, line: &str) -> Result<(), AllocError> {
-    lines.push_str(line)?;
-    lines.push('\n')
-}
-
-/// Writes where a fault is, and what to do.
-fn put_place(
-    alloc: Global,
-    fault: Fault,
-    sources: Sources<'_>,
-    lines: &mut String,
-) -> Result<(), AllocError> {
-    match fault {
-        Fault::Text(TextFault::Lexical(fault)) => put_place_of_token(alloc, fault, sources, lines),
-        Fault::Text(fault) => put_place_in_text(alloc, fault, sources, lines),
-        Fault::Check(fault) => put_place_in_rules(alloc, fault, sources, lines),
-        Fault::Box(fault) => put_place_in_box(alloc, fault, sources, lines),
-        Fault::Capture(_) => Ok(()),
+    /// Writes the place at an offset of the ruleset.
+    fn show(self, offset: usize, lines: &mut String) -> Result<(), AllocError> {
+        let (paths, text) = (self.sources.paths, self.sources.rules);
+        show(self.alloc, lines, paths.rules, text, offset)
     }
-}
 
-/// Writes where what is no token begins, and what to do.
-fn put_place_of_token(
-    alloc: Global,
-    fault: LexFault,
-    sources: Sources<'_>,
-    lines: &mut String,
-) -> Result<(), AllocError> {
-    let text = sources.rules;
-    let Some(offset) = lexical_place(text, fault) else {
-        return Ok(());
-    };
-    show(alloc, lines, sources.paths.rules, text, offset)?;
-    put_token_advice(alloc, text, fault, offset, lines)
-}
-
-/// Writes where the grammar doesn't allow a ruleset, and what to do.
-fn put_place_in_text(
-    alloc: Global,
-    fault: TextFault,
-    sources: Sources<'_>,
-    lines: &mut String,
-) -> Result<(), AllocError> {
-    let text = sources.rules;
-    let tokens = match lex(alloc, text) {
-        Ok(tokens) => tokens,
-        Err(LexError::Refused(_)) => return Ok(()),
-        Err(LexError::Memory) => return Err(AllocError),
-    };
-    let Some(place) = syntax_place(alloc, &tokens, fault)? else {
-        return Ok(());
-    };
-    show(
-        alloc,
-        lines,
-        sources.paths.rules,
-        text,
-        place.offset(&tokens),
-    )?;
-    put_place_advice(alloc, text, &tokens, fault, place, lines)
-}
-
-/// Writes where a fault of a ruleset as a whole is, and what to do.
-fn put_place_in_rules(
-    alloc: Global,
-    fault: CheckFault,
-    sources: Sources<'_>,
-    lines: &mut String,
-) -> Result<(), AllocError> {
-    let (text, plant) = (sources.rules, sources.plant);
-    let Some(word) = check_place(alloc, text, plant)? else {
-        return Ok(());
-    };
-    let offset = word.start;
-    show(alloc, lines, sources.paths.rules, text, offset)?;
-    put_enclosing(alloc, text, offset, lines)?;
-    put_advice_on_rules(alloc, text, plant, fault, offset, lines)
-}
-
-/// Writes where a fault of a box file is, and what to do.
-fn put_place_in_box(
-    alloc: Global,
-    fault: BoxFault,
-    sources: Sources<'_>,
-    lines: &mut String,
-) -> Result<(), AllocError> {
-    let text = sources.plant;
-    let Some(line) = faulty_line(alloc, text, fault)? else {
-        return Ok(());
-    };
-    show(alloc, lines, sources.paths.plant, text, line.start)?;
-    put_advice_on_box(alloc, text, fault, line, lines)
-}
-
-/// Writes what is around an offset.
-fn put_enclosing(
-    alloc: Global,
-    text: &[u8],
-    offset: usize,
-    lines: &mut String,
-) -> Result<(), AllocError> {
-    let around = Outline::of(alloc, text)?.description(alloc, offset)?;
-    if around.is_empty() {
-        return Ok(());
+    /// Writes where what is no token begins, and what to do.
+    fn put_place_of_token(self, fault: LexFault, lines: &mut String) -> Result<(), AllocError> {
+        let text = self.sources.rules;
+        let Some(offset) = lexical_place(text, fault) else {
+            return Ok(());
+        };
+        self.show(offset, lines)?;
+        match token_advice(text, fault, offset) {
+            Some(advice) => advice.put(self.alloc, lines),
+            None => Ok(()),
+        }
     }
-    put_line(lines, around.as_str())
+
+    /// Writes where the grammar doesn't allow a ruleset, and what to do.
+    fn put_place_in_text(self, fault: TextFault, lines: &mut String) -> Result<(), AllocError> {
+        let (alloc, text) = (self.alloc, self.sources.rules);
+        let tokens = match lex(alloc, text) {
+            Ok(tokens) => tokens,
+            Err(LexError::Refused(_)) => return Ok(()),
+            Err(LexError::Memory) => return Err(AllocError),
+        };
+        let Some(place) = syntax_place(alloc, &tokens, fault)? else {
+            return Ok(());
+        };
+        let offset = place.offset(&tokens);
+        self.show(offset, lines)?;
+        match place {
+            SyntaxPlace::Brace(brace) => match brace_advice(text, &tokens, brace) {
+                Some(advice) => advice.put(alloc, lines),
+                None => Ok(()),
+            },
+            SyntaxPlace::Part { at, part } => {
+                let run = run_around(text, offset);
+                put_syntax_advice(&Stop::new(alloc, run, &tokens, part, at, fault)?, lines)
+            }
+        }
+    }
+
+    /// Writes where a fault of a ruleset as a whole is, what is around it, and what to do.
+    fn put_place_in_rules(self, fault: CheckFault, lines: &mut String) -> Result<(), AllocError> {
+        let (alloc, text, plant) = (self.alloc, self.sources.rules, self.sources.plant);
+        let Some(word) = check_place(alloc, text, plant)? else {
+            return Ok(());
+        };
+        self.show(word.start, lines)?;
+        let around = Outline::of(alloc, text)?.description(alloc, word.start)?;
+        if !around.is_empty() {
+            writeln!(lines, "{}", around.as_str())?;
+        }
+        put_advice_on_rules(alloc, text, plant, fault, word.start, lines)
+    }
+
+    /// Writes where a fault of a box file is, and what to do.
+    fn put_place_in_box(self, fault: BoxFault, lines: &mut String) -> Result<(), AllocError> {
+        let (alloc, text) = (self.alloc, self.sources.plant);
+        let Some(line) = faulty_line(alloc, text, fault)? else {
+            return Ok(());
+        };
+        show(alloc, lines, self.sources.paths.plant, text, line.start)?;
+        put_advice_on_box(alloc, text, fault, line, lines)
+    }
 }

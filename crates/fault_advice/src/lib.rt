@@ -5,7 +5,6 @@
 #![tactic(auto)]
 
 mod explaining;
-mod place_advice;
 mod shape_advice;
 mod stop;
 mod token_advice;

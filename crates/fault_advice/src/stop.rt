@@ -1,11 +1,10 @@
 //! The place at which the grammar stops in a part of a ruleset, and what it allows there.
 use advice::Kind;
-use fault_location::SyntaxPlace;
 use fault_places::Words;
 use nft_lexer::{Token, TokenKind};
 use nft_parser::TextFault;
 use std::alloc::{AllocError, Global};
-use unread_parts::{Part, PartKind, open_braces};
+use unread_parts::{Part, PartKind};
 
 /// The longest start of a part that is tried with other words behind it, in tokens.
 const MOST_TOKENS: usize = 1024;
@@ -14,7 +13,8 @@ const MOST_TOKENS: usize = 1024;
 #[derive(Drop)]
 pub struct Stop<'a> {
     pub alloc: Global,
-    pub text: &'a [u8],
+    /// What is written around the place, up to the next blanks.
+    pub run: &'a str,
     pub tokens: &'a [Token<'a>],
     pub part: Part,
     /// The token at the place.
@@ -31,7 +31,7 @@ impl<'a> Stop<'a> {
     /// The place at a token of a part.
     pub fn new(
         alloc: Global,
-        text: &'a [u8],
+        run: &'a str,
         tokens: &'a [Token<'a>],
         part: Part,
         token: usize,
@@ -44,7 +44,7 @@ impl<'a> Stop<'a> {
         };
         Ok(Stop {
             alloc,
-            text,
+            run,
             tokens,
             part,
             token,
@@ -64,27 +64,12 @@ impl<'a> Stop<'a> {
         self.words.before(self.at, places)
     }
 
-    /// How many bytes of the text come before the place.
-    pub fn offset(&self) -> usize {
-        let at = self.token;
-        SyntaxPlace::Part {
-            at,
-            part: self.part,
-        }
-        .offset(self.tokens)
-    }
-
     pub fn is_in_rule(&self) -> bool {
         self.part.kind == PartKind::Rule
     }
 
-    /// Whether a brace is open at the place.
-    pub fn is_in_braces(&self) -> bool {
-        open_braces(self.start(), 0) > 0
-    }
-
     /// What stands before the place.
-    fn start(&self) -> &'a [Token<'a>] {
+    pub fn start(&self) -> &'a [Token<'a>] {
         self.part.tokens_before(self.tokens, self.token)
     }
 
@@ -118,11 +103,8 @@ impl<'a> Stop<'a> {
         word: &str,
         next: &str,
     ) -> Result<bool, AllocError> {
-        if start.len() > MOST_TOKENS {
-            return Ok(false);
-        }
-        let text = [" ", word, " ", next].concat(self.alloc)?;
-        kind.allows(self.alloc, start, text.as_str())
+        let text = format!(in self.alloc; " {word} {next}")?;
+        Ok(start.len() <= MOST_TOKENS && kind.allows(self.alloc, start, text.as_str())?)
     }
 
     /// The words of a kind that the grammar allows at the place, with another one behind them.
@@ -152,33 +134,25 @@ impl<'a> Stop<'a> {
 
     /// Whether there is a word so many places before the place without which the part can be read.
     pub fn reads_without(&self, places: usize) -> Result<bool, AllocError> {
-        let part = self.part;
-        let Some(left_out) = self.token.checked_sub(places) else {
-            return Ok(false);
+        let (alloc, part) = (self.alloc, self.part);
+        let surplus = match self.token.checked_sub(places) {
+            Some(surplus) if part.first <= surplus && surplus < part.end => surplus,
+            _ => return Ok(false),
         };
-        if left_out < part.first || part.end <= left_out {
-            return Ok(false);
-        }
-        let before = part.tokens_before(self.tokens, left_out);
-        let behind = self
-            .tokens
-            .get(left_out.saturating_add(1)..part.end)
-            .unwrap_or(&[]);
-        let without = [before, behind].concat(self.alloc)?;
+        let before = part.tokens_before(self.tokens, surplus);
+        let behind = self.tokens.get(surplus.saturating_add(1)..part.end);
+        let without = [before, behind.unwrap_or(&[])].concat(alloc)?;
         if part.start < part.first {
-            return part.kind.allows(self.alloc, &without, "");
+            return part.kind.allows(alloc, &without, "");
         }
-        part.kind.reads_with(self.alloc, &without, "")
+        part.kind.reads_with(alloc, &without, "")
     }
 }
 
 /// How many tokens are no newlines.
 fn words_among(tokens: &[Token<'_>]) -> usize {
-    let mut count = 0usize;
-    for token in tokens {
-        if !matches!(token.kind, TokenKind::NewLine) {
-            count = count.saturating_add(1);
-        }
-    }
-    count
+    let words = tokens.iter();
+    words
+        .filter(|token| !matches!(token.kind, TokenKind::NewLine))
+        .count()
 }

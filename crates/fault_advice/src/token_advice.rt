@@ -2,25 +2,26 @@
 use advice::{
     Advice, COMMENT_MARK, NO_VARIABLES, OF_IPTABLES, OF_JSON, ONLY_IPV4, fixed, with_text,
 };
+use fault_places::{Span, bytes_of, position_at, rest_from, shown};
 use nft_lexer::LexFault;
 
-/// What to do about a lexical fault, where these bytes are left, which begin with a word; the line
-/// has others before them.
-pub fn token_advice<'a>(
-    fault: LexFault,
-    before: &str,
-    rest: &[u8],
-    word: &'a str,
-) -> Option<Advice<'a>> {
-    if let Some(sentence) = other_language(before, rest) {
+/// What to do about a lexical fault at an offset.
+pub fn token_advice<'a>(text: &'a [u8], fault: LexFault, offset: usize) -> Option<Advice<'a>> {
+    if offset > text.len() {
+        return None;
+    }
+    let rest = bytes_of(text, rest_from(text, offset));
+    let start = position_at(text, offset).start;
+    let before = Span { start, end: offset };
+    if let Some(sentence) = other_language(shown(text, before), rest) {
         return Some(fixed(sentence));
     }
-    match fault {
-        LexFault::Byte { .. } => Some(fixed(byte_advice(rest))),
-        LexFault::OpenString { .. } => Some(fixed("Close it with `\"` on this line.")),
-        LexFault::Number { .. } => Some(number_advice(rest, word)),
-        LexFault::TooLong => None,
-    }
+    Some(match fault {
+        LexFault::Byte { .. } => fixed(byte_advice(rest)),
+        LexFault::OpenString { .. } => fixed("Close it with `\"` on this line."),
+        LexFault::Number { .. } => number_advice(rest),
+        LexFault::TooLong => return None,
+    })
 }
 
 /// What to do about a line of another language than nft's.
@@ -64,25 +65,20 @@ fn letter_advice(rest: &[u8]) -> &'static str {
 }
 
 /// What to do about a number or an address.
-fn number_advice<'a>(rest: &[u8], word: &'a str) -> Advice<'a> {
+fn number_advice<'a>(rest: &'a [u8]) -> Advice<'a> {
     // Two digits and a colon stand in a hardware address.
     if matches!(rest, [_, _, b':', ..]) {
         return fixed("Link headers aren't read: take the match out, or the rule.");
     }
-    if word.find('.').is_some() {
+    let mut groups = rest.split(|byte| !byte.is_ascii_alphanumeric() && *byte != b'.');
+    let word = str::from_utf8(groups.next().unwrap_or(&[])).unwrap_or("");
+    if word.contains('.') {
         return fixed("A group of an address is at most 255, without leading zeros.");
     }
-    if word.starts_with("0") {
-        return with_text(
-            "Write `{}`: a number has no leading zeros.",
-            without_zeros(word),
-        );
+    if !word.starts_with("0") {
+        return fixed("Numbers are below 2^64.");
     }
-    fixed("Numbers are below 2^64.")
-}
-
-/// A number without its leading zeros.
-fn without_zeros(word: &str) -> &str {
     let digits = word.trim_start_matches('0');
-    if digits.is_empty() { "0" } else { digits }
+    let number = if digits.is_empty() { "0" } else { digits };
+    with_text("Write `{}`: a number has no leading zeros.", number)
 }

@@ -1,11 +1,11 @@
 //! What to do where the grammar doesn't allow a word: the word that may be meant, or is missing.
-use crate::shape_advice::{is_list, left_out_advice, names_advice, put_list_advice, shape_advice};
+use crate::shape_advice::{left_out_advice, names_advice, put_list_advice, shape_advice};
 use crate::stop::Stop;
 use advice::{
     Advice, DID_YOU_MEAN, DID_YOU_MEAN_ONE_OF, Gap, Kind, NO_GAP, begins_statement, changes,
     filled, kinds, lists, one_of, otherwise, with_text, with_texts, write_this,
 };
-use std::alloc::{AllocError, Global};
+use std::alloc::AllocError;
 
 /// The most words that are listed as those that could stand at a place.
 const MOST_LISTED: usize = 15;
@@ -13,37 +13,34 @@ const MOST_LISTED: usize = 15;
 /// Marks that may be missing before a word.
 const MARKS: &str = "; , } = : { @";
 
-/// Words that may be missing before a word.
-const MISSING: &str =
-    "to hook priority type prefix state dport saddr ct ip tcp meta set bytes packets map";
-
 /// Values of some types.
 const VALUES: &str = "1 192.0.2.1 \"x\"";
+
+/// Words and values that may be missing before a word.
+const MISSING: &str = "to hook priority type prefix state dport saddr ct ip tcp meta set bytes \
+     packets map 1 192.0.2.1 \"x\"";
+
+const VALUE_BEFORE: &str = "Expected a value before `{}`.";
+
+const WORD_BEFORE: &str = "Expected `{}` before `{}`.";
+
+const MORE_BEHIND: &str = "Something is missing behind `{}`.";
 
 /// Writes what to do at the place at which the grammar stops, if it is known.
 pub fn put_syntax_advice(stop: &Stop<'_>, lines: &mut String) -> Result<(), AllocError> {
     if let Some(advice) = left_out_advice(stop).or(shape_advice(stop)) {
         return advice.put(stop.alloc, lines);
     }
-    if is_list(stop) && put_list_advice(stop, lines)? {
+    if put_list_advice(stop, lines)? {
         return Ok(());
     }
-    match meant_word(stop)? {
-        Some(meant) => put_meant(stop, meant, lines),
-        None => put_count_advice(stop, lines),
-    }
-}
-
-/// Writes which word is missing, or one too many; or else which may stand at the place.
-fn put_count_advice(stop: &Stop<'_>, lines: &mut String) -> Result<(), AllocError> {
-    if let Some(advice) = names_advice(stop) {
-        return advice.put(stop.alloc, lines);
+    if let Some(meant) = meant_word(stop)? {
+        return put_meant(stop, meant, lines);
     }
     if let Some(advice) = count_advice(stop)? {
         return advice.put(stop.alloc, lines);
     }
-    let words = expected_words(stop)?;
-    match expected_advice(stop, &words) {
+    match expected_advice(stop, &expected_words(stop)?) {
         Some(advice) => advice.put(stop.alloc, lines),
         None => Ok(()),
     }
@@ -73,9 +70,8 @@ fn meant_word(stop: &Stop<'_>) -> Result<Option<Meant>, AllocError> {
 fn words_meant(stop: &Stop<'_>) -> Result<Vec<Meant>, AllocError> {
     let mut found = Vec::new(stop.alloc);
     add_others(stop.here(), &mut found)?;
-    let here = stop.here().to_ascii_lowercase(stop.alloc)?;
     for &kind in &kinds(stop.alloc)? {
-        add_near(stop.alloc, here.as_str(), kind, &mut found)?;
+        add_near(stop, kind, &mut found)?;
     }
     found.sort_by_key(|meant| meant.changes)?;
     Ok(found)
@@ -83,10 +79,10 @@ fn words_meant(stop: &Stop<'_>) -> Result<Vec<Meant>, AllocError> {
 
 /// Adds what stands here for a word that others write.
 fn add_others(here: &str, found: &mut Vec<Meant>) -> Result<(), AllocError> {
-    for (instead, written) in otherwise() {
+    for (word, written) in otherwise() {
         if lists(written, here) {
             found.push(Meant {
-                word: instead,
+                word,
                 changes: 0,
                 kind: None,
             })?;
@@ -95,15 +91,11 @@ fn add_others(here: &str, found: &mut Vec<Meant>) -> Result<(), AllocError> {
     Ok(())
 }
 
-/// Adds the words of a kind that are near another one.
-fn add_near(
-    alloc: Global,
-    written: &str,
-    kind: Kind,
-    found: &mut Vec<Meant>,
-) -> Result<(), AllocError> {
-    for &word in &kind.words(alloc)? {
-        if let Some(changes) = changes(alloc, written, word)? {
+/// Adds the words of a kind that are near the one at the place.
+fn add_near(stop: &Stop<'_>, kind: Kind, found: &mut Vec<Meant>) -> Result<(), AllocError> {
+    let here = stop.here().to_ascii_lowercase(stop.alloc)?;
+    for &word in &kind.words(stop.alloc)? {
+        if let Some(changes) = changes(stop.alloc, here.as_str(), word)? {
             found.push(Meant {
                 word,
                 changes,
@@ -125,20 +117,22 @@ fn put_meant(stop: &Stop<'_>, meant: Meant, lines: &mut String) -> Result<(), Al
 
 /// A word is meant, one of these if they are few.
 fn near_advice<'a>(word: &'a str, others: &'a [&'a str]) -> Advice<'a> {
-    if others.len() < 2 || others.len() > MOST_LISTED {
-        return with_text(DID_YOU_MEAN, word);
-    }
-    filled(
-        DID_YOU_MEAN_ONE_OF,
-        [Gap::Text(word), Gap::Words(others), NO_GAP, NO_GAP],
-    )
+    let question = match others.len() {
+        2..=MOST_LISTED => DID_YOU_MEAN_ONE_OF,
+        _ => DID_YOU_MEAN,
+    };
+    let gaps = [Gap::Text(word), Gap::Words(others), NO_GAP, NO_GAP];
+    filled(question, gaps)
 }
 
 /// What is missing before the word at the place, or is one too many.
 fn count_advice<'a>(stop: &Stop<'a>) -> Result<Option<Advice<'a>>, AllocError> {
+    if let Some(advice) = names_advice(stop) {
+        return Ok(Some(advice));
+    }
     let here = stop.here();
     if begins_statement(here) && stop.first_allowed(VALUES, here)?.is_some() {
-        return Ok(Some(value_before(here)));
+        return Ok(Some(with_text(VALUE_BEFORE, here)));
     }
     let marks = stop.allowed_of(Kind::Listed(MARKS), here)?;
     match missing_mark(stop.before(1), here, &marks) {
@@ -149,50 +143,34 @@ fn count_advice<'a>(stop: &Stop<'a>) -> Result<Option<Advice<'a>>, AllocError> {
 
 /// Which of these marks is missing between two words; at the end of a part the second one is empty.
 fn missing_mark<'a>(before: &'a str, here: &'a str, marks: &[&'static str]) -> Option<Advice<'a>> {
-    let one = marks.first().copied()?;
-    Some(match (one, marks.len()) {
-        ("{", 1) if here.is_empty() => with_text("Expected `{` behind `{}`.", before),
-        _ if here.is_empty() => something_behind(before),
-        (";", 1) => with_text("Expected `;` or a newline before `{}`.", here),
-        ("@", 1) | ("{", 2) => with_text("Write `@{}`.", here),
-        (_, 2) => {
-            let other = Gap::Text(marks.last().copied().unwrap_or(""));
-            let gaps = [Gap::Text(one), other, Gap::Text(here), NO_GAP];
+    Some(match marks {
+        [] => return None,
+        [one] if *one == "{" && here.is_empty() => with_text("Expected `{` behind `{}`.", before),
+        _ if here.is_empty() => with_text(MORE_BEHIND, before),
+        [one] if *one == ";" => with_text("Expected `;` or a newline before `{}`.", here),
+        [one] if *one == "@" => with_text("Write `@{}`.", here),
+        [one, _] if *one == "{" => with_text("Write `@{}`.", here),
+        [one, other] => {
+            let gaps = [Gap::Text(one), Gap::Text(other), Gap::Text(here), NO_GAP];
             filled("Expected `{}` or `{}` before `{}`.", gaps)
         }
-        _ => expected_word(one, here),
+        [one, ..] => with_texts(WORD_BEFORE, one, here),
     })
 }
 
 /// A word or a value that is missing before the word at the place, or else a word too many.
 fn missing_word<'a>(stop: &Stop<'a>) -> Result<Option<Advice<'a>>, AllocError> {
     let here = stop.here();
-    if here.is_empty() {
-        return surplus_advice(stop);
+    if !here.is_empty()
+        && let Some(word) = stop.first_allowed(MISSING, here)?
+    {
+        return Ok(Some(if lists(VALUES, word) {
+            with_text(VALUE_BEFORE, here)
+        } else {
+            with_texts(WORD_BEFORE, word, here)
+        }));
     }
-    if let Some(word) = stop.first_allowed(MISSING, here)? {
-        return Ok(Some(expected_word(word, here)));
-    }
-    if stop.first_allowed(VALUES, here)?.is_some() {
-        return Ok(Some(value_before(here)));
-    }
-    surplus_advice(stop)
-}
-
-fn expected_word<'a>(wanted: &'a str, here: &'a str) -> Advice<'a> {
-    with_texts("Expected `{}` before `{}`.", wanted, here)
-}
-
-fn value_before<'a>(here: &'a str) -> Advice<'a> {
-    with_text("Expected a value before `{}`.", here)
-}
-
-fn something_behind<'a>(before: &'a str) -> Advice<'a> {
-    with_text("Something is missing behind `{}`.", before)
-}
-
-/// The word at the place or the one before, where the part can be read without it.
-fn surplus_advice<'a>(stop: &Stop<'a>) -> Result<Option<Advice<'a>>, AllocError> {
+    // The word at the place or the one before, where the part can be read without it.
     for places in 0..2 {
         if stop.reads_without(places)? {
             return Ok(Some(with_text("Take `{}` out.", stop.before(places))));
@@ -206,7 +184,7 @@ fn expected_advice<'a>(stop: &Stop<'a>, words: &'a [&'a str]) -> Option<Advice<'
     match words.len() {
         0 => None,
         1..=MOST_LISTED => Some(one_of(Gap::Words(words))),
-        _ if stop.here().is_empty() => Some(something_behind(stop.before(1))),
+        _ if stop.here().is_empty() => Some(with_text(MORE_BEHIND, stop.before(1))),
         _ if stop.is_in_rule() => Some(with_text("No statement begins with `{}`.", stop.here())),
         _ => None,
     }

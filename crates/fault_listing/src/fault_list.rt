@@ -1,18 +1,15 @@
 //! Lists all faults of a ruleset and its box file: a part with a fault is taken out, and the rest is
 //! read again.
 use crate::node_search::NodeSearch;
-use box_file::Plant;
 use fault_location::{
     Fault, Sources, SyntaxPlace, box_fault, faulty_line, lexical_place, place_in, read_box,
     shown_word, syntax_place,
 };
-use fault_places::{Outline, Span, bytes_of, holds, mask, position_at};
+use fault_places::{Outline, Span, bytes_of, holds, mask, position_at, span_of, tokens_of};
 use fault_spans::node_range;
-use nft_lexer::{LexError, LexFault, Punctuator, Token, TokenKind, lex};
+use nft_lexer::{LexError, Punctuator, Token, TokenKind, lex};
 use nft_parser::TextFault;
 use nft_rulesets::ruleset;
-use nft_tree::Ruleset;
-use node_spans::TokenRange;
 use rule_check::CheckFault;
 use std::alloc::{AllocError, Global};
 use unread_parts::{Part, PartKind, braces_match, unread_parts};
@@ -36,43 +33,19 @@ struct FoundFault {
 /// # Errors
 /// `AllocError` for want of memory.
 pub fn all_faults(alloc: Global, sources: Sources<'_>) -> Result<String, AllocError> {
-    let mut plant = FaultList::of_box(alloc, sources.plant)?;
-    let mut lines = rules_faults(alloc, sources, plant.is_clean())?;
-    plant.write_to(alloc, &mut lines, sources.paths.plant, sources.plant)?;
-    Ok(lines)
-}
-
-/// The lines of the ruleset's faults. It is judged as a whole where its box has none.
-fn rules_faults(alloc: Global, sources: Sources<'_>, has_box: bool) -> Result<String, AllocError> {
-    let mut rules = FaultList::new(alloc, sources.rules);
-    rules.is_partial = !has_box;
-    let mut left = sources.rules.to_vec(alloc)?;
-    rules.remove_bytes(alloc, &mut left)?;
-    rules.read(alloc, &left, sources.plant)?;
     let mut lines = String::new(alloc);
-    rules.write_to(alloc, &mut lines, sources.paths.rules, &left)?;
+    let mut rules = FaultList::new(alloc, sources.paths.rules, sources.rules);
+    rules.put_rules(sources.plant, &mut lines)?;
+    let mut plant = FaultList::new(alloc, sources.paths.plant, sources.plant);
+    plant.put_box(&mut lines)?;
     Ok(lines)
-}
-
-/// Writes pieces of a line.
-fn put(lines: &mut String, pieces: &[&str]) -> Result<(), AllocError> {
-    for piece in pieces {
-        lines.push_str(piece)?;
-    }
-    Ok(())
-}
-
-/// Writes what a fault's code means, and ends its line.
-fn put_meaning(lines: &mut String, code: &str) -> Result<(), AllocError> {
-    match explanations::explain(code) {
-        Some(known) => put(lines, &[": ", known.sentence, "\n"]),
-        None => lines.push('\n'),
-    }
 }
 
 /// A text and its faults.
 #[derive(Drop)]
 struct FaultList<'a> {
+    alloc: Global,
+    path: &'a str,
     text: &'a [u8],
     found: Vec<FoundFault>,
     /// The names of declarations that were taken out: uses of them aren't faults.
@@ -84,8 +57,10 @@ struct FaultList<'a> {
 }
 
 impl<'a> FaultList<'a> {
-    fn new(alloc: Global, text: &'a [u8]) -> FaultList<'a> {
+    fn new(alloc: Global, path: &'a str, text: &'a [u8]) -> FaultList<'a> {
         FaultList {
+            alloc,
+            path,
             text,
             found: Vec::new(alloc),
             removed: Vec::new(alloc),
@@ -94,21 +69,9 @@ impl<'a> FaultList<'a> {
         }
     }
 
-    /// The faults of a box file.
-    fn of_box(alloc: Global, text: &'a [u8]) -> Result<FaultList<'a>, AllocError> {
-        let mut list = FaultList::new(alloc, text);
-        list.read_box(alloc)?;
-        Ok(list)
-    }
-
     /// Whether more faults may be listed.
     fn is_open(&self) -> bool {
         self.found.len() < MOST && !self.is_stuck
-    }
-
-    /// Whether no fault was found.
-    fn is_clean(&self) -> bool {
-        self.found.is_empty() && !self.is_stuck
     }
 
     fn add(&mut self, offset: usize, fault: Fault) -> Result<(), AllocError> {
@@ -116,11 +79,45 @@ impl<'a> FaultList<'a> {
         Ok(())
     }
 
-    /// Removes what is no token.
-    fn remove_bytes(&mut self, alloc: Global, left: &mut Vec<u8>) -> Result<(), AllocError> {
+    /// Writes the faults of a box file.
+    fn put_box(&mut self, lines: &mut String) -> Result<(), AllocError> {
+        self.remove_box_lines(&mut self.text.to_vec(self.alloc)?)?;
+        self.write_to(lines, self.text)
+    }
+
+    /// Removes the lines of a box file that have a fault.
+    fn remove_box_lines(&mut self, left: &mut Vec<u8>) -> Result<(), AllocError> {
         for _ in 0..MOST {
-            let Some(fault) = lexical_fault(alloc, left)? else {
+            let Some(fault) = box_fault(self.alloc, left)? else {
                 return Ok(());
+            };
+            let Some(line) = faulty_line(self.alloc, left, fault)? else {
+                self.is_stuck = true;
+                return Ok(());
+            };
+            mask(left, &[line]);
+            self.add(line.start, Fault::Box(fault))?;
+        }
+        Ok(())
+    }
+
+    /// Writes the faults of a ruleset. It is judged as a whole where its box has none.
+    fn put_rules(&mut self, plant: &[u8], lines: &mut String) -> Result<(), AllocError> {
+        let mut left = self.text.to_vec(self.alloc)?;
+        self.remove_bytes(&mut left)?;
+        let mut tokens = tokens_of(self.alloc, &left)?;
+        self.remove_unread(&mut tokens)?;
+        self.judge(&tokens, plant)?;
+        self.write_to(lines, &left)
+    }
+
+    /// Removes what is no token.
+    fn remove_bytes(&mut self, left: &mut Vec<u8>) -> Result<(), AllocError> {
+        for _ in 0..MOST {
+            let fault = match lex(self.alloc, left) {
+                Ok(_) => return Ok(()),
+                Err(LexError::Refused(fault)) => fault,
+                Err(LexError::Memory) => return Err(AllocError),
             };
             let Some(offset) = lexical_place(left, fault) else {
                 self.is_stuck = true;
@@ -133,283 +130,204 @@ impl<'a> FaultList<'a> {
         Ok(())
     }
 
-    /// Reads the ruleset that is left, if all of it is tokens.
-    fn read(&mut self, alloc: Global, left: &[u8], plant: &[u8]) -> Result<(), AllocError> {
-        match lex(alloc, left) {
-            Ok(mut tokens) => self.read_tokens(alloc, &mut tokens, plant),
-            Err(LexError::Refused(_)) => Ok(()),
-            Err(LexError::Memory) => Err(AllocError),
-        }
-    }
-
-    /// Takes the parts out that can't be read, and judges the rest.
-    fn read_tokens(
-        &mut self,
-        alloc: Global,
-        tokens: &mut Vec<Token<'_>>,
-        plant: &[u8],
-    ) -> Result<(), AllocError> {
+    /// Takes the parts out that can't be read.
+    fn remove_unread(&mut self, tokens: &mut Vec<Token<'_>>) -> Result<(), AllocError> {
         self.remove_faulty_lines(tokens);
         for round in 0..MOST_ROUNDS {
-            let parts = unread_parts(alloc, tokens)?;
+            let parts = unread_parts(self.alloc, tokens)?;
             if parts.is_empty() || !self.is_open() {
-                break;
+                return Ok(());
             }
-            self.list_parts(alloc, tokens, &parts, round > 0)?;
-            remove_parts(alloc, tokens, &parts)?;
+            self.list_parts(tokens, &parts, round > 0)?;
+            self.remove_parts(tokens, &parts)?;
         }
-        if self.is_open() {
-            self.judge(alloc, tokens, plant)
-        } else {
-            Ok(())
-        }
+        Ok(())
     }
 
     /// Takes the lines out in which something is no token, but for the heads of what has braces.
     fn remove_faulty_lines(&self, tokens: &mut Vec<Token<'_>>) {
         for found in &self.found {
-            let line = line_around(tokens, found.offset);
-            let end = line.end.min(tokens.len());
-            let first = line.first.min(end);
-            if braces_match(&tokens[first..end]) {
+            let (first, end) = line_around(tokens, found.offset);
+            if first < end && end <= tokens.len() && braces_match(&tokens[first..end]) {
                 let _ = tokens.drain(first..end);
             }
         }
     }
 
-    /// Lists parts that can't be read, but for those in which a fault is listed already. Where braces don't match, they aren't known, and the text's one
-    /// fault is listed.
+    /// Takes parts out, which are in text order.
+    fn remove_parts(&self, tokens: &mut Vec<Token<'_>>, parts: &[Part]) -> Result<(), AllocError> {
+        let mut left = Vec::with_capacity(self.alloc, tokens.len())?;
+        let mut at = 0;
+        for part in parts {
+            left.extend_from_slice(tokens.get(at..part.first).unwrap_or(&[]))?;
+            at = part.next;
+        }
+        left.extend_from_slice(tokens.get(at..).unwrap_or(&[]))?;
+        *tokens = left;
+        Ok(())
+    }
+
+    /// Lists parts that can't be read, but for those in which, or, where they are read again, in whose
+    /// items, a fault is listed already. Where braces don't match, they aren't known, and the text's
+    /// one fault is listed.
     fn list_parts(
         &mut self,
-        alloc: Global,
         tokens: &[Token<'_>],
         parts: &[Part],
         is_again: bool,
     ) -> Result<(), AllocError> {
         if !braces_match(tokens) {
             self.is_stuck = true;
-            return self.list_place(alloc, tokens, parts);
+            return self.list_place(tokens, parts);
         }
         for part in parts {
-            let first = if is_again {
-                part.item.unwrap_or(part.first)
-            } else {
-                part.first
-            };
-            if self.is_open() && !self.has_found_in(span_of(tokens, first, part.end)) {
-                self.list_part(alloc, tokens, *part)?;
+            let item = part.item.filter(|_| is_again);
+            let around = tokens.get(item.unwrap_or(part.first)..part.end);
+            if self.is_open() && !self.has_found_in(around.unwrap_or(&[])) {
+                self.list_part(tokens, *part)?;
             }
-            self.note_removed(alloc, tokens, *part)?;
+            self.note_removed(tokens, *part)?;
         }
         Ok(())
     }
 
     /// Lists the fault of a ruleset whose parts aren't known.
-    fn list_place(
-        &mut self,
-        alloc: Global,
-        tokens: &[Token<'_>],
-        parts: &[Part],
-    ) -> Result<(), AllocError> {
-        let mut fault = TextFault::Syntax;
-        for part in parts {
-            if part.unsupported_word(tokens).is_some() {
-                fault = TextFault::Unsupported;
-            }
-        }
-        match syntax_place(alloc, tokens, fault)? {
+    fn list_place(&mut self, tokens: &[Token<'_>], parts: &[Part]) -> Result<(), AllocError> {
+        let fault = fault_of(tokens, parts);
+        match syntax_place(self.alloc, tokens, fault)? {
             Some(place) => self.add(place.offset(tokens), Fault::Text(fault)),
             None => Ok(()),
         }
     }
 
     /// Lists the fault of a part.
-    fn list_part(
-        &mut self,
-        alloc: Global,
-        tokens: &[Token<'_>],
-        part: Part,
-    ) -> Result<(), AllocError> {
-        let fault = match part.unsupported_word(tokens) {
-            Some(_) => TextFault::Unsupported,
-            None => TextFault::Syntax,
-        };
-        let at = place_in(alloc, tokens, part, fault)?;
+    fn list_part(&mut self, tokens: &[Token<'_>], part: Part) -> Result<(), AllocError> {
+        let fault = fault_of(tokens, &[part]);
+        let at = place_in(self.alloc, tokens, part, fault)?;
         let place = SyntaxPlace::Part { at, part };
         self.add(place.offset(tokens), Fault::Text(fault))
     }
 
     /// Notes the name of an item that is taken out, and whether more than that is lost.
-    fn note_removed(
-        &mut self,
-        alloc: Global,
-        tokens: &[Token<'_>],
-        part: Part,
-    ) -> Result<(), AllocError> {
-        let is_whole = matches!(part.kind, PartKind::Tables | PartKind::Item)
-            && part.item.is_none();
-        if !is_whole {
+    fn note_removed(&mut self, tokens: &[Token<'_>], part: Part) -> Result<(), AllocError> {
+        if part.item.is_some() || !matches!(part.kind, PartKind::Tables | PartKind::Item) {
             return Ok(());
         }
         self.is_partial = self.is_partial || has_parts(tokens, part);
         if let Some(name) = tokens.get(part.first.saturating_add(1)) {
-            self.removed.push(name.text.to_vec(alloc)?)?;
+            self.removed.push(name.text.to_vec(self.alloc)?)?;
         }
         Ok(())
     }
 
-    /// Whether a fault was found in a part.
-    fn has_found_in(&self, part: Span) -> bool {
-        self.found.iter().any(|found| holds(part, found.offset))
+    /// Whether a fault was found in some tokens.
+    fn has_found_in(&self, tokens: &[Token<'_>]) -> bool {
+        let (Some(first), Some(last)) = (tokens.first(), tokens.last()) else {
+            return false;
+        };
+        let (start, end) = (first.start, span_of(last).end);
+        let mut all = self.found.iter();
+        all.any(|found| holds(Span { start, end }, found.offset))
     }
 
-    /// Removes the lines of a box file that have a fault.
-    fn read_box(&mut self, alloc: Global) -> Result<(), AllocError> {
-        let mut left = self.text.to_vec(alloc)?;
-        for _ in 0..MOST {
-            let Some(fault) = box_fault(alloc, &left)? else {
-                return Ok(());
-            };
-            let Some(line) = faulty_line(alloc, &left, fault)? else {
-                self.is_stuck = true;
-                return Ok(());
-            };
-            mask(&mut left, &[line]);
-            self.add(line.start, Fault::Box(fault))?;
+    /// Lists the faults of the ruleset that is left, if its box has none.
+    fn judge(&mut self, tokens: &[Token<'_>], plant: &[u8]) -> Result<(), AllocError> {
+        let plant = read_box(self.alloc, plant)?;
+        self.is_partial = self.is_partial || plant.is_none();
+        if !self.is_open() {
+            return Ok(());
         }
-        Ok(())
-    }
-
-    /// Lists the faults of the ruleset that is left.
-    fn judge(
-        &mut self,
-        alloc: Global,
-        tokens: &[Token<'_>],
-        plant: &[u8],
-    ) -> Result<(), AllocError> {
-        match (ruleset(alloc, tokens)?, read_box(alloc, plant)?) {
-            (Some(tree), Some(plant)) => self.search(alloc, tokens, tree, &plant),
-            (None, _) => {
-                self.is_stuck = true;
+        match (ruleset(self.alloc, tokens)?, plant) {
+            (Some(tree), Some(plant)) => {
+                self.add_nodes(tokens, &mut NodeSearch::of(self.alloc, tree, &plant)?)
+            }
+            _ => {
+                self.is_partial = true;
                 Ok(())
             }
-            (Some(_), None) => Ok(()),
         }
-    }
-
-    fn search(
-        &mut self,
-        alloc: Global,
-        tokens: &[Token<'_>],
-        tree: Ruleset,
-        plant: &Plant,
-    ) -> Result<(), AllocError> {
-        let search = NodeSearch::of(alloc, tree, plant)?;
-        self.add_nodes(alloc, tokens, &search)
     }
 
     /// Lists the nodes that a search found.
     fn add_nodes(
         &mut self,
-        alloc: Global,
         tokens: &[Token<'_>],
-        search: &NodeSearch<'_>,
+        search: &mut NodeSearch<'_>,
     ) -> Result<(), AllocError> {
         self.is_partial = self.is_partial || search.is_partial;
+        self.removed.append(&mut search.removed)?;
         for found in &search.found {
-            if let Some(range) = node_range(alloc, tokens, found.node)? {
+            if let Some(range) = node_range(self.alloc, tokens, found.node)? {
                 let its_tokens = tokens.get(range.first..range.end).unwrap_or(&[]);
                 let word = shown_word(found.node, found.fault, found.is_of_data, its_tokens);
-                self.add_refused(found.fault, word, &search.removed)?;
+                self.add_refused(found.fault, word)?;
             }
         }
         Ok(())
     }
 
     /// Lists the fault of a node at a word, unless it follows from a declaration that was taken out.
-    fn add_refused(
-        &mut self,
-        fault: CheckFault,
-        word: Span,
-        removed: &[Vec<u8>],
-    ) -> Result<(), AllocError> {
+    fn add_refused(&mut self, fault: CheckFault, word: Span) -> Result<(), AllocError> {
+        let name = bytes_of(self.text, word);
         let is_name = matches!(fault, CheckFault::NoSuchChain | CheckFault::NoSuchSet);
-        if is_name && self.is_missing(word, removed) {
+        let mut removed = self.removed.iter();
+        if is_name && removed.any(|removed| removed.as_slice() == name) {
             self.is_partial = true;
             return Ok(());
         }
         self.add(word.start, Fault::Check(fault))
     }
 
-    /// Whether a word is the name of a declaration that was taken out.
-    fn is_missing(&self, word: Span, removed: &[Vec<u8>]) -> bool {
-        let name = bytes_of(self.text, word);
-        removed
-            .iter()
-            .chain(&self.removed)
-            .any(|removed| removed.as_slice() == name)
-    }
-
-    /// Writes a line for each fault, in the order of the text, where some text has the parts around them.
-    fn write_to(
-        &mut self,
-        alloc: Global,
-        lines: &mut String,
-        path: &str,
-        parts: &[u8],
-    ) -> Result<(), AllocError> {
+    /// Writes a line for each fault, in the order of the text, where some text has the parts around
+    /// them, and a last line where there may be more.
+    fn write_to(&mut self, lines: &mut String, parts: &[u8]) -> Result<(), AllocError> {
         self.found.sort_by_key(|found| found.offset)?;
-        let outline = Outline::of(alloc, parts)?;
+        let outline = Outline::of(self.alloc, parts)?;
         for found in &self.found {
-            let code = found.fault.code(alloc)?;
-            self.write_place(lines, path, found.offset, code.as_str())?;
-            put_around(lines, outline.description(alloc, found.offset)?.as_str())?;
-            put_meaning(lines, code.as_str())?;
+            let around = outline.description(self.alloc, found.offset)?;
+            self.write_fault(lines, *found, around.as_str())?;
         }
-        self.write_end(lines, path)
-    }
-
-    /// Writes where a fault is, and its code.
-    fn write_place(
-        &self,
-        lines: &mut String,
-        path: &str,
-        offset: usize,
-        code: &str,
-    ) -> Result<(), AllocError> {
-        if offset <= self.text.len() {
-            let at = position_at(self.text, offset);
-            write!(lines, "{path}:{}:{}: {code}", at.line, at.column)?;
-        }
-        Ok(())
-    }
-
-    /// Writes a last line where there may be more.
-    fn write_end(&self, lines: &mut String, path: &str) -> Result<(), AllocError> {
+        let path = self.path;
         if self.is_stuck || self.is_partial {
-            return put(lines, &[path, ": not all of it could be judged\n"]);
+            return writeln!(lines, "{path}: not all of it could be judged");
         }
         if self.found.len() >= MOST {
             writeln!(lines, "{path}: there may be more faults than these {MOST}")?;
         }
         Ok(())
     }
-}
 
-/// Writes what is around a fault, if it's known.
-fn put_around(lines: &mut String, around: &str) -> Result<(), AllocError> {
-    if around.is_empty() {
-        return Ok(());
+    /// Writes where a fault is, its code, what is around it, if that's known, and what it means.
+    fn write_fault(
+        &self,
+        lines: &mut String,
+        found: FoundFault,
+        around: &str,
+    ) -> Result<(), AllocError> {
+        if found.offset > self.text.len() {
+            return Ok(());
+        }
+        let (path, at) = (self.path, position_at(self.text, found.offset));
+        let code = found.fault.code(self.alloc)?;
+        let code = code.as_str();
+        write!(lines, "{path}:{}:{}: {code}", at.line, at.column)?;
+        if !around.is_empty() {
+            write!(lines, " ({around})")?;
+        }
+        match explanations::explain(code) {
+            Some(known) => writeln!(lines, ": {}", known.sentence),
+            None => lines.push('\n'),
+        }
     }
-    put(lines, &[" (", around, ")"])
 }
 
-/// The lexical fault of a text.
-fn lexical_fault(alloc: Global, text: &[u8]) -> Result<Option<LexFault>, AllocError> {
-    match lex(alloc, text) {
-        Ok(_) => Ok(None),
-        Err(LexError::Refused(fault)) => Ok(Some(fault)),
-        Err(LexError::Memory) => Err(AllocError),
+/// The fault of parts of which each has one.
+fn fault_of(tokens: &[Token<'_>], parts: &[Part]) -> TextFault {
+    let mut all = parts.iter();
+    if all.any(|part| part.unsupported_word(tokens).is_some()) {
+        TextFault::Unsupported
+    } else {
+        TextFault::Syntax
     }
 }
 
@@ -428,70 +346,36 @@ fn faulty_bytes(text: &[u8], offset: usize) -> Span {
 }
 
 /// The tokens of the line around an offset, `end` exclusive.
-fn line_around(tokens: &[Token<'_>], offset: usize) -> TokenRange {
-    let mut first = 0;
-    for (at, token) in tokens.iter().enumerate() {
-        let is_behind = offset <= token.start;
-        match token.kind {
-            TokenKind::NewLine
-            | TokenKind::Punctuator(Punctuator::Semicolon | Punctuator::CloseBrace)
-                if is_behind => {
-                return TokenRange { first, end: at };
-            }
-            TokenKind::NewLine
-            | TokenKind::Punctuator(Punctuator::Semicolon | Punctuator::OpenBrace) => {
-                first = at.saturating_add(1);
-            }
-            _ => {}
-        }
-    }
-    let end = tokens.len();
-    TokenRange { first, end }
+fn line_around(tokens: &[Token<'_>], offset: usize) -> (usize, usize) {
+    let mut all = tokens.iter();
+    let end = all.position(|token| {
+        offset <= token.start && is_end(token, Punctuator::CloseBrace)
+    });
+    let end = end.unwrap_or(tokens.len());
+    let mut before = tokens.get(..end).unwrap_or(&[]).iter();
+    let first = before.rposition(|token| is_end(token, Punctuator::OpenBrace));
+    (first.map_or(0, |at| at.saturating_add(1)), end)
 }
 
-/// Takes parts out, which are in text order.
-fn remove_parts(
-    alloc: Global,
-    tokens: &mut Vec<Token<'_>>,
-    parts: &[Part],
-) -> Result<(), AllocError> {
-    let mut left = Vec::with_capacity(alloc, tokens.len())?;
-    let mut at = 0;
-    for part in parts {
-        left.extend_from_slice(tokens.get(at..part.first).unwrap_or(&[]))?;
-        at = part.next;
-    }
-    left.extend_from_slice(tokens.get(at..).unwrap_or(&[]))?;
-    *tokens = left;
-    Ok(())
-}
-
-/// The bytes of some tokens, `end` exclusive.
-fn span_of(tokens: &[Token<'_>], first: usize, end: usize) -> Span {
-    match (tokens.get(first), tokens.get(end.saturating_sub(1))) {
-        (Some(first), Some(last)) => Span {
-            start: first.start,
-            end: last.start.saturating_add(last.text.len()),
-        },
-        _ => Span { start: 0, end: 0 },
+/// Whether a token ends a line: a newline, a semicolon or this brace.
+fn is_end(token: &Token<'_>, brace: Punctuator) -> bool {
+    match token.kind {
+        TokenKind::NewLine | TokenKind::Punctuator(Punctuator::Semicolon) => true,
+        TokenKind::Punctuator(mark) => mark == brace,
+        _ => false,
     }
 }
 
 /// Whether a chain has anything behind its opening brace, or a set or a map elements.
 fn has_parts(tokens: &[Token<'_>], part: Part) -> bool {
-    let kind = match tokens.get(part.first) {
-        Some(token) => token.text,
-        None => &[],
+    let inner = part.first.saturating_add(3)..part.end.saturating_sub(1);
+    let mut inner = tokens.get(inner).unwrap_or(&[]).iter();
+    let Some(kind) = tokens.get(part.first) else {
+        return false;
     };
-    let is_set = kind == b"set".as_slice() || kind == b"map".as_slice();
-    let inner = tokens
-        .get(part.first.saturating_add(3)..part.end.saturating_sub(1))
-        .unwrap_or(&[]);
-    inner.iter().any(|token| {
-        if is_set {
-            token.text == b"elements".as_slice()
-        } else {
-            kind == b"chain".as_slice() && !matches!(token.kind, TokenKind::NewLine)
-        }
-    })
+    match str::from_utf8(kind.text) {
+        Ok("chain") => inner.any(|token| !matches!(token.kind, TokenKind::NewLine)),
+        Ok("set" | "map") => inner.any(|token| token.text == b"elements".as_slice()),
+        _ => false,
+    }
 }

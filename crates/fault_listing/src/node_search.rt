@@ -11,17 +11,11 @@ use std::alloc::{AllocError, Global};
 const MOST_RANGES: usize = 100_000;
 
 /// Parts of a ruleset (rules, statements and elements) by their number in text order, `end`
-/// exclusive.
-#[derive(Clone, Copy)]
-struct PartRange {
-    start: usize,
-    end: usize,
-}
-
-/// Parts that have a fault together.
+/// exclusive, that have a fault together.
 #[derive(Clone, Copy)]
 struct Refused {
-    range: PartRange,
+    start: usize,
+    end: usize,
     fault: CheckFault,
 }
 
@@ -58,11 +52,7 @@ impl<'a> NodeSearch<'a> {
     ///
     /// # Errors
     /// `AllocError` for want of memory.
-    pub fn of(
-        alloc: Global,
-        tree: Ruleset,
-        plant: &'a Plant,
-    ) -> Result<NodeSearch<'a>, AllocError> {
+    pub fn of(alloc: Global, tree: Ruleset, plant: &'a Plant) -> Result<Self, AllocError> {
         let mut search = NodeSearch {
             alloc,
             plant,
@@ -76,13 +66,9 @@ impl<'a> NodeSearch<'a> {
             removed: Vec::new(alloc),
             is_partial: false,
         };
-        search.run()?;
+        search.search_declarations()?;
+        search.search_parts()?;
         Ok(search)
-    }
-
-    fn run(&mut self) -> Result<(), AllocError> {
-        self.search_declarations()?;
-        self.search_parts()
     }
 
     /// Takes out the declarations that are refused without rules and elements.
@@ -92,26 +78,24 @@ impl<'a> NodeSearch<'a> {
             let Some(found) = first_fault(self.alloc, &declared, self.plant, 0)? else {
                 return Ok(());
             };
+            let FaultyNode { fault, node, .. } = found;
             self.found.push(FoundNode {
-                fault: found.fault,
-                node: found.node,
+                fault,
+                node,
                 is_of_data: false,
             })?;
-            self.take_declaration(found)?;
+            self.take_declaration(node, fault)?;
         }
         Ok(())
     }
 
     /// Searches all parts until what is left of them is accepted.
     fn search_parts(&mut self) -> Result<(), AllocError> {
-        self.number_parts()?;
+        self.whole = self.tree.try_clone()?;
+        self.parts = (0..ruleset_parts(&self.tree)).collect(self.alloc)?;
         for _ in 0..MOST {
-            let before = self.found.len();
-            let all = PartRange {
-                start: 0,
-                end: self.parts.len(),
-            };
-            if !self.has_room() || !self.open(all)? {
+            let (before, end) = (self.found.len(), self.parts.len());
+            if before >= MOST || !self.open(0, end)? {
                 return Ok(());
             }
             self.search()?;
@@ -122,20 +106,13 @@ impl<'a> NodeSearch<'a> {
         Ok(())
     }
 
-    fn number_parts(&mut self) -> Result<(), AllocError> {
-        self.whole = self.tree.try_clone()?;
-        for part in 0..ruleset_parts(&self.tree) {
-            self.parts.push(part)?;
-        }
-        Ok(())
-    }
-
+    /// Searches the open ranges.
     fn search(&mut self) -> Result<(), AllocError> {
         for _ in 0..MOST_RANGES {
             let Some(refused) = self.open.pop() else {
                 return Ok(());
             };
-            if self.has_room() && !self.is_listed(refused.fault) {
+            if self.found.len() < MOST && !self.is_listed(refused.fault) {
                 self.bisect(refused)?;
             }
         }
@@ -143,72 +120,54 @@ impl<'a> NodeSearch<'a> {
     }
 
     /// Lists the part of a range of one, or opens those halves that are refused, the first one last:
-    /// it is searched first.
+    /// it is searched first. Where neither half has a fault, lists the part that completes the one of
+    /// both, and opens the range without it.
     fn bisect(&mut self, refused: Refused) -> Result<(), AllocError> {
-        let PartRange { start, end } = refused.range;
+        let Refused { start, end, fault } = refused;
         if end <= start {
             return Ok(());
         }
         if end - start == 1 {
-            self.list(start, refused.fault)?;
+            self.list(start, fault)?;
             return Ok(());
         }
         let middle = start + (end - start) / 2;
-        let second = self.open(PartRange { start: middle, end })?;
-        let first = self.open(PartRange { start, end: middle })?;
+        let second = self.open(middle, end)?;
+        let first = self.open(start, middle)?;
         if !first && !second {
-            return self.list_last(refused);
+            let part = self.completing(refused)?;
+            let taken = self.list(part, fault)?;
+            self.open(start, end.saturating_sub(taken).max(start))?;
         }
         Ok(())
     }
 
     /// Opens a range of parts if they are refused together, and returns whether they are.
-    fn open(&mut self, range: PartRange) -> Result<bool, AllocError> {
-        let Some(fault) = self.fault_of(range)? else {
+    fn open(&mut self, start: usize, end: usize) -> Result<bool, AllocError> {
+        let Some(fault) = self.fault_of(start, end)? else {
             return Ok(false);
         };
-        self.open.push(Refused { range, fault })?;
+        self.open.push(Refused { start, end, fault })?;
         Ok(true)
     }
 
     /// The fault of the ruleset with no other parts than those of a range.
-    fn fault_of(&self, range: PartRange) -> Result<Option<CheckFault>, AllocError> {
-        let parts = ruleset_between(self.alloc, &self.tree, range.start, range.end)?;
+    fn fault_of(&self, start: usize, end: usize) -> Result<Option<CheckFault>, AllocError> {
+        let parts = ruleset_between(self.alloc, &self.tree, start, end)?;
         least_fault(self.alloc, &parts, self.plant)
-    }
-
-    /// Whether the ruleset has this fault with no other parts than those of a range.
-    fn has(&self, range: PartRange, fault: CheckFault) -> Result<bool, AllocError> {
-        Ok(match self.fault_of(range)? {
-            Some(found) => is_same(found, fault),
-            None => false,
-        })
-    }
-
-    /// Lists the part that completes a fault which neither half of the range has, and opens the range
-    /// without it.
-    fn list_last(&mut self, refused: Refused) -> Result<(), AllocError> {
-        let part = self.completing(refused)?;
-        let taken = self.list(part, refused.fault)?;
-        let PartRange { start, end } = refused.range;
-        self.open(PartRange {
-            start,
-            end: end.saturating_sub(taken).max(start),
-        })?;
-        Ok(())
     }
 
     /// The part of a range with which the ruleset gets the fault that it has with all of them.
     fn completing(&self, refused: Refused) -> Result<usize, AllocError> {
-        let Refused { range, fault } = refused;
-        let PartRange { start, end } = range;
+        let Refused { start, end, fault } = refused;
         if end <= start {
             return Ok(start);
         }
         let (mut without, mut with) = (start, end);
         while with - without > 1 {
             let middle = without + (with - without) / 2;
-            if self.has(PartRange { start, end: middle }, fault)? {
+            let found = self.fault_of(start, middle)?;
+            if found.is_some_and(|found| found as u8 == fault as u8) {
                 with = middle;
             } else {
                 without = middle;
@@ -220,7 +179,8 @@ impl<'a> NodeSearch<'a> {
     /// Lists the fault of a part, takes that out, and returns how many parts are gone with it.
     fn list(&mut self, part: usize, fault: CheckFault) -> Result<usize, AllocError> {
         let is_of_data = is_of_data(self.alloc, &self.tree, self.plant, part, fault)?;
-        let Some(node) = self.node(part) else {
+        let number = self.parts.get(part).copied().unwrap_or(usize::MAX);
+        let Some(node) = node_of_part(&self.whole, number) else {
             return Ok(0);
         };
         self.found.push(FoundNode {
@@ -229,73 +189,56 @@ impl<'a> NodeSearch<'a> {
             is_of_data,
         })?;
         if let Some(node) = node_of_part(&self.tree, part) {
-            take_part(&mut self.tree, node);
+            let _ = take_part(&mut self.tree, node);
         }
         let taken = self.parts.len().saturating_sub(ruleset_parts(&self.tree));
         self.forget(part, taken);
-        self.move_open(part, taken);
         Ok(taken)
     }
 
-    /// Forgets so many parts from one on.
+    /// Forgets so many parts from one on, and numbers the open ranges behind it anew.
     fn forget(&mut self, part: usize, count: usize) {
         let end = part.saturating_add(count).min(self.parts.len());
         if part < end {
             let _ = self.parts.drain(part..end);
         }
-    }
-
-    /// The node of a part in the whole ruleset.
-    fn node(&self, part: usize) -> Option<Node> {
-        node_of_part(&self.whole, *self.parts.get(part)?)
-    }
-
-    /// Numbers the open ranges behind a part anew, from which so many parts were taken out.
-    fn move_open(&mut self, part: usize, taken: usize) {
         for refused in &mut self.open {
-            let PartRange { start, end } = refused.range;
-            if part < start {
-                refused.range = PartRange {
-                    start: start.saturating_sub(taken),
-                    end: end.saturating_sub(taken),
-                };
+            if part < refused.start {
+                refused.start = refused.start.saturating_sub(count);
+                refused.end = refused.end.saturating_sub(count);
             }
         }
     }
 
-    fn has_room(&self) -> bool {
-        self.found.len() < MOST
-    }
-
-    /// Whether a fault of the whole ruleset is listed already.
+    /// Whether a fault is one of the ruleset as a whole that no rule has alone, and is listed already.
     fn is_listed(&self, fault: CheckFault) -> bool {
-        is_ruleset_wide(fault) && self.found.iter().any(|found| is_same(found.fault, fault))
+        let is_wide = matches!(
+            fault,
+            CheckFault::TooDeep | CheckFault::TooCostly | CheckFault::TooLarge
+        );
+        let mut found = self.found.iter();
+        is_wide && found.any(|found| found.fault as u8 == fault as u8)
     }
 
     /// Takes out a table's items, the head of a chain, or else a declaration.
-    fn take_declaration(&mut self, found: FaultyNode) -> Result<(), AllocError> {
-        match found.node {
+    fn take_declaration(&mut self, node: Node, fault: CheckFault) -> Result<(), AllocError> {
+        match node {
             Node::Table { table } => self.take_table(table),
-            Node::Item { table, item } => self.take_item(table, item, found.fault),
+            Node::Item { table, item } => self.take_item(table, item, fault),
             _ => Ok(()),
         }
     }
 
-    /// Takes out the items of a table, and gives it a name that no other has.
+    /// Takes out the items of a table, and gives it a name that no other has: names don't begin with
+    /// a digit.
     fn take_table(&mut self, number: usize) -> Result<(), AllocError> {
-        let own_name = self.unused_name()?;
+        let own_name = format!(in self.alloc; "{}", self.found.len())?;
         if let Some(table) = self.tree.tables.get_mut(number) {
             self.is_partial = self.is_partial || !table.items.is_empty();
             table.items.clear();
-            table.name = own_name;
+            table.name = own_name.into_bytes();
         }
         Ok(())
-    }
-
-    /// A name that no ruleset has: names don't begin with a digit.
-    fn unused_name(&self) -> Result<Vec<u8>, AllocError> {
-        let name = format!(in self.alloc; "{}", self.found.len())?;
-        name.as_bytes().to_vec(self.alloc)
     }
 
     fn take_item(
@@ -304,68 +247,46 @@ impl<'a> NodeSearch<'a> {
         number: usize,
         fault: CheckFault,
     ) -> Result<(), AllocError> {
-        let alloc = self.alloc;
-        let Some(table) = self.tree.tables.get_mut(table) else {
-            return Ok(());
-        };
-        let Some(item) = table.items.get_mut(number) else {
+        let Some(item) = item_at(&mut self.tree, table, number) else {
             return Ok(());
         };
         if let Item::Chain(chain) = item
-            && !is_same(fault, CheckFault::DuplicateName)
+            && !matches!(fault, CheckFault::DuplicateName)
         {
             chain.head = None;
             return Ok(());
         }
         let (name, has_parts) = named(item);
-        let name = name.to_vec(alloc)?;
-        *item = Item::Comment(Vec::new(alloc));
-        self.removed.push(name)?;
+        self.removed.push(name.to_vec(self.alloc)?)?;
         self.is_partial = self.is_partial || has_parts;
+        *item = Item::Comment(Vec::new(self.alloc));
         Ok(())
     }
 }
 
-/// Whether a fault is one of the ruleset as a whole that no rule has alone: it is listed once.
-fn is_ruleset_wide(fault: CheckFault) -> bool {
-    matches!(
-        fault,
-        CheckFault::TooDeep | CheckFault::TooCostly | CheckFault::TooLarge
-    )
-}
-
-/// Whether two faults are the same one.
-fn is_same(one: CheckFault, two: CheckFault) -> bool {
-    one as u8 == two as u8
-}
-
-/// Takes a rule, a statement or an element out.
-fn take_part(tree: &mut Ruleset, node: Node) {
+/// Takes a rule, a statement or an element out, if it is there.
+fn take_part(tree: &mut Ruleset, node: Node) -> Option<()> {
     match node {
-        Node::Rule { table, item, rule } => {
-            if let Some(rules) = rules_at(tree, table, item) {
-                take_at(rules, rule);
-            }
-        }
+        Node::Table { .. } | Node::Item { .. } => {}
+        Node::Rule { table, item, rule } => take_at(rules_at(tree, table, item)?, rule),
+        Node::Element {
+            table,
+            item,
+            element,
+        } => match item_at(tree, table, item)? {
+            Item::Set(set) => take_at(set.elements.as_mut()?, element),
+            Item::Map(map) => take_at(map.elements.as_mut()?, element),
+            _ => {}
+        },
         Node::Statement {
             table,
             item,
             rule,
             statement,
         } => {
-            if let Some(statements) = statements_at(tree, table, item, rule) {
-                take_at(statements, statement);
-            }
+            let rule = rules_at(tree, table, item)?.get_mut(rule)?;
+            take_at(&mut rule.statements, statement);
         }
-        Node::Element {
-            table,
-            item,
-            element,
-        } => match item_at(tree, table, item) {
-            Some(Item::Set(set)) => take_element(&mut set.elements, element),
-            Some(Item::Map(map)) => take_element(&mut map.elements, element),
-            _ => {}
-        },
         Node::AnonymousElement {
             table,
             item,
@@ -373,14 +294,11 @@ fn take_part(tree: &mut Ruleset, node: Node) {
             statement,
             element,
         } => {
-            if let Some(statements) = statements_at(tree, table, item, rule)
-                && let Some(statement) = statements.get_mut(statement)
-            {
-                take_anonymous(statement, element);
-            }
+            let rule = rules_at(tree, table, item)?.get_mut(rule)?;
+            take_anonymous(rule.statements.get_mut(statement)?, element);
         }
-        Node::Table { .. } | Node::Item { .. } => {}
     }
+    Some(())
 }
 
 fn take_anonymous(statement: &mut Stmt, number: usize) {
@@ -391,12 +309,6 @@ fn take_anonymous(statement: &mut Stmt, number: usize) {
         take_at(elements, number);
     } else if let Some(pairs) = pairs_in(statement) {
         take_at(pairs, number);
-    }
-}
-
-fn take_element<T: Drop>(elements: &mut Option<Vec<T>>, number: usize) {
-    if let Some(elements) = elements {
-        take_at(elements, number);
     }
 }
 
@@ -415,15 +327,6 @@ fn rules_at(tree: &mut Ruleset, table: usize, item: usize) -> Option<&mut Vec<Ru
         Item::Chain(chain) => Some(&mut chain.rules),
         _ => None,
     }
-}
-
-fn statements_at(
-    tree: &mut Ruleset,
-    table: usize,
-    item: usize,
-    rule: usize,
-) -> Option<&mut Vec<Stmt>> {
-    Some(&mut rules_at(tree, table, item)?.get_mut(rule)?.statements)
 }
 
 /// The name of a declaration, and whether it has rules or elements.

@@ -35,30 +35,23 @@ fn completing_line(
     lines: &[Span],
     fault: BoxFault,
 ) -> Result<Option<Span>, AllocError> {
-    if lines.is_empty() || fails_without(alloc, text, lines, 0, fault)? {
+    // Whether the text has the fault without the lines from a number on.
+    let fails_without = |first: usize| -> Result<bool, AllocError> {
+        let mut left = text.to_vec(alloc)?;
+        mask(&mut left, lines.get(first..).unwrap_or(&[]));
+        Ok(box_fault(alloc, &left)? == Some(fault))
+    };
+    if lines.is_empty() || fails_without(0)? {
         return Ok(None);
     }
     let (mut without, mut with) = (0, lines.len());
     while with - without > 1 {
         let middle = without + (with - without) / 2;
-        if fails_without(alloc, text, lines, middle, fault)? {
+        if fails_without(middle)? {
             with = middle;
         } else {
             without = middle;
         }
     }
     Ok(lines.get(without).copied())
-}
-
-/// Whether a text has the fault without the lines from a number on.
-fn fails_without(
-    alloc: Global,
-    text: &[u8],
-    lines: &[Span],
-    first: usize,
-    fault: BoxFault,
-) -> Result<bool, AllocError> {
-    let mut left = text.to_vec(alloc)?;
-    mask(&mut left, lines.get(first..).unwrap_or(&[]));
-    Ok(box_fault(alloc, &left)? == Some(fault))
 }

@@ -1,7 +1,6 @@
 //! The faults of a ruleset, of a box file and of a capture.
 use box_file::{BoxError, BoxFault, Plant};
-use nft_parser::{ParseError, TextFault, parse};
-use nft_tree::Ruleset;
+use nft_parser::TextFault;
 use pcap_io::CaptureFault;
 use rule_check::CheckFault;
 use std::alloc::{AllocError, Global};
@@ -44,15 +43,6 @@ pub struct Sources<'a> {
     pub paths: SourcePaths<'a>,
     pub rules: &'a [u8],
     pub plant: &'a [u8],
-}
-
-/// A ruleset, where its text can be parsed.
-pub fn read_rules(alloc: Global, text: &[u8]) -> Result<Option<Ruleset>, AllocError> {
-    match parse(alloc, text) {
-        Ok(ruleset) => Ok(Some(ruleset)),
-        Err(ParseError::Refused(_)) => Ok(None),
-        Err(ParseError::Memory) => Err(AllocError),
-    }
 }
 
 /// A box, where its file is accepted.

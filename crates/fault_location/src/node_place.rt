@@ -1,10 +1,11 @@
 //! Where a fault of a ruleset as a whole stands: at the node with which the ruleset gets it.
-use crate::faults::{read_box, read_rules};
+use crate::faults::read_box;
 use box_file::Plant;
 use fault_nodes::{Node, declarations, ruleset_between, ruleset_parts};
-use fault_places::{Span, bytes_of};
-use fault_spans::{FaultSpan, fault_span};
-use nft_lexer::{Punctuator, Token, TokenKind, lex};
+use fault_places::{Span, span_of, tokens_in, tokens_of};
+use fault_spans::fault_span;
+use nft_lexer::{Punctuator, Token, TokenKind};
+use nft_rulesets::ruleset;
 use nft_tree::{
     Data, DestinationTarget, Item, MapRef, Nat, Operand, Pair, Ruleset, SourceTarget, Stmt, Value,
     Verdict,
@@ -17,47 +18,19 @@ use std::alloc::{AllocError, Global};
 /// # Errors
 /// `AllocError` for want of memory.
 pub fn check_place(alloc: Global, text: &[u8], plant: &[u8]) -> Result<Option<Span>, AllocError> {
-    match (read_rules(alloc, text)?, read_box(alloc, plant)?) {
-        (Some(tree), Some(plant)) => place_in_tree(alloc, text, &tree, &plant),
-        _ => Ok(None),
-    }
-}
-
-/// The word of the node with which a ruleset gets its fault.
-fn place_in_tree(
-    alloc: Global,
-    text: &[u8],
-    tree: &Ruleset,
-    plant: &Plant,
-) -> Result<Option<Span>, AllocError> {
-    let likely = likely_position(alloc, tree, plant)?;
-    let Some(found) = fault_span(alloc, text, plant, likely)? else {
+    let tree = ruleset(alloc, &tokens_of(alloc, text)?)?;
+    let (Some(tree), Some(plant)) = (tree, read_box(alloc, plant)?) else {
         return Ok(None);
     };
-    let part = found.position.saturating_sub(declarations(tree));
-    let is_of_data = is_of_data(alloc, tree, plant, part, found.fault)?;
-    word_in(alloc, text, found, is_of_data)
-}
-
-/// The word of a node at which its fault is shown.
-fn word_in(
-    alloc: Global,
-    text: &[u8],
-    found: FaultSpan,
-    is_of_data: bool,
-) -> Result<Option<Span>, AllocError> {
-    let node = Span {
-        start: found.start,
-        end: found.end,
-    };
-    let Ok(tokens) = lex(alloc, bytes_of(text, node)) else {
+    let likely = likely_position(alloc, &tree, &plant)?;
+    let Some(found) = fault_span(alloc, text, &plant, likely)? else {
         return Ok(None);
     };
-    let word = shown_word(found.node, found.fault, is_of_data, &tokens);
-    Ok(Some(Span {
-        start: word.start.saturating_add(found.start),
-        end: word.end.saturating_add(found.start),
-    }))
+    let part = found.position.saturating_sub(declarations(&tree));
+    let is_of_data = is_of_data(alloc, &tree, &plant, part, found.fault)?;
+    let (start, end) = (found.start, found.end);
+    let tokens = tokens_in(alloc, text, Span { start, end })?;
+    Ok(Some(shown_word(found.node, found.fault, is_of_data, &tokens)))
 }
 
 /// How much of a ruleset is likely read before the node with which it gets its fault: by halves, of
@@ -89,24 +62,13 @@ pub fn is_of_data(
     fault: CheckFault,
 ) -> Result<bool, AllocError> {
     match fault {
-        CheckFault::Contradiction | CheckFault::TooLarge => Ok(false),
-        CheckFault::TypeMismatch | CheckFault::WrongValue | CheckFault::NoSuchInterface => {
-            let mut alone = ruleset_between(alloc, tree, part, part.saturating_add(1))?;
-            is_right_with_other_data(alloc, &mut alone, plant, fault)
-        }
-        _ => Ok(true),
+        CheckFault::Contradiction | CheckFault::TooLarge => return Ok(false),
+        CheckFault::TypeMismatch | CheckFault::WrongValue | CheckFault::NoSuchInterface => {}
+        _ => return Ok(true),
     }
-}
-
-/// Whether a ruleset with one part alone, an element of a map, hasn't the fault with some other data.
-fn is_right_with_other_data(
-    alloc: Global,
-    alone: &mut Ruleset,
-    plant: &Plant,
-    fault: CheckFault,
-) -> Result<bool, AllocError> {
+    let mut alone = ruleset_between(alloc, tree, part, part.saturating_add(1))?;
     for number in 0..3 {
-        let Some(pair) = first_pair(alone) else {
+        let Some(pair) = first_pair(&mut alone) else {
             return Ok(false);
         };
         pair.value = match number {
@@ -114,24 +76,12 @@ fn is_right_with_other_data(
             1 => Data::Value(Value::Address(0)),
             _ => Data::Value(Value::Number(0)),
         };
-        if !fails_so_early(alloc, alone, plant, fault)? {
+        // Neither the fault nor one before it.
+        if least_fault(alloc, &alone, plant)?.is_none_or(|found| found as u8 > fault as u8) {
             return Ok(true);
         }
     }
     Ok(false)
-}
-
-/// Whether a ruleset has the fault or one before it.
-fn fails_so_early(
-    alloc: Global,
-    tree: &Ruleset,
-    plant: &Plant,
-    fault: CheckFault,
-) -> Result<bool, AllocError> {
-    Ok(match least_fault(alloc, tree, plant)? {
-        Some(found) => found as u8 <= fault as u8,
-        None => false,
-    })
 }
 
 /// The first element of a map, also of an anonymous one.
@@ -153,7 +103,7 @@ fn pair_in(item: &mut Item) -> Option<&mut Pair> {
     }
 }
 
-/// The word at which the fault of a node with these tokens is shown.
+/// The word at which the fault of a node with these tokens is shown: by default the first one.
 pub fn shown_word(node: Node, fault: CheckFault, is_of_data: bool, tokens: &[Token<'_>]) -> Span {
     let shown = match (node, fault) {
         (Node::Item { .. }, CheckFault::WrongValue | CheckFault::MisplacedNatChain) => {
@@ -161,50 +111,28 @@ pub fn shown_word(node: Node, fault: CheckFault, is_of_data: bool, tokens: &[Tok
         }
         (Node::Statement { .. }, CheckFault::MisplacedNat | CheckFault::StatementAfterVerdict) =>
             None,
-        (Node::Statement { .. }, _) => last_word(tokens),
-        (Node::Element { .. } | Node::AnonymousElement { .. }, _) if is_of_data => last_word(
-            tokens,
-        ),
+        (Node::Statement { .. }, _) => tokens.last(),
+        (Node::Element { .. } | Node::AnonymousElement { .. }, _) if is_of_data => tokens.last(),
         _ => None,
     };
-    shown.unwrap_or(first_word(tokens))
-}
-
-/// The first of some tokens.
-fn first_word(tokens: &[Token<'_>]) -> Span {
-    match tokens.first() {
+    match shown.or(tokens.first()) {
         Some(token) => span_of(token),
         None => Span { start: 0, end: 0 },
     }
 }
 
-/// A token's bytes.
-fn span_of(token: &Token<'_>) -> Span {
-    Span {
-        start: token.start,
-        end: token.start.saturating_add(token.text.len()),
-    }
-}
-
-fn last_word(tokens: &[Token<'_>]) -> Option<Span> {
-    Some(span_of(tokens.last()?))
-}
-
 /// The last word of a chain's priority.
-fn end_of_priority(tokens: &[Token<'_>]) -> Option<Span> {
-    let mut last = None;
-    for token in tokens {
-        let ends = matches!(
+fn end_of_priority<'a, 't>(tokens: &'a [Token<'t>]) -> Option<&'a Token<'t>> {
+    let priority = tokens
+        .iter()
+        .skip_while(|token| token.text != b"priority".as_slice());
+    let mut line = priority.take_while(|token| {
+        !matches!(
             token.kind,
             TokenKind::NewLine | TokenKind::Punctuator(Punctuator::Semicolon)
-        );
-        match last {
-            Some(_) if ends => return last,
-            None if token.text != b"priority".as_slice() => {}
-            _ => last = Some(span_of(token)),
-        }
-    }
-    last
+        )
+    });
+    line.last()
 }
 
 /// The elements of the anonymous map in a statement.

@@ -5,8 +5,9 @@ ghost use Rattle.nft_lexer.specs.Lexing.{FirstFault};
 ghost use Rattle.nft_lexer.specs.Places.{FaultStandsAt};
 ghost use Rattle.nft_lexer.specs.declared.fault.LexFault.{LexFault};
 ghost use Rattle.nft_parser.specs.declared.fault.TextFault.{TextFault};
-ghost use Rattle.fault_location.specs.Places.{Begins};
+ghost use Rattle.fault_location.specs.Places.{IsPlace};
 
+use fault_places::span_of;
 use nft_lexer::{LexFault, Token, fault_start};
 use nft_parser::TextFault;
 use std::alloc::{AllocError, Global};
@@ -39,14 +40,11 @@ impl SyntaxPlace {
             SyntaxPlace::Brace(brace) => (brace.brace, tokens.len()),
             SyntaxPlace::Part { at, part } => (at, part.end),
         };
-        if at < end {
-            if let Some(token) = tokens.get(at) {
-                return token.start;
-            }
-        }
-        match tokens.get(end.saturating_sub(1)) {
-            Some(last) => last.start.saturating_add(last.text.len()),
-            None => 0,
+        let before = tokens.get(..end).unwrap_or(tokens);
+        match (before.get(at), before.last()) {
+            (Some(token), _) => token.start,
+            (None, Some(last)) => span_of(last).end,
+            (None, None) => 0,
         }
     }
 }
@@ -63,24 +61,29 @@ pub fn syntax_place(
     tokens: &[Token<'_>],
     fault: TextFault,
 ) -> Result<Option<SyntaxPlace>, AllocError>
-    // Some ruleset begins with the tokens before the place.
-    ensures { fault ≡ TextFault.Syntax → IfOk result (λ o. IfSome o (Begins tokens.now)) }
+    // Some ruleset begins with the tokens before the place, or an unsupported word stands there.
+    ensures { IfOk result (λ o. IfSome o (IsPlace fault tokens.now)) }
 {
-    let parts = unread_parts(alloc, tokens)?;
-    let part = first_with(&parts, tokens, fault);
-    let at = place_in(alloc, tokens, part, fault)?;
-    let brace = unclosed_brace(alloc, tokens)?;
-    if let Some(brace) = brace {
-        // Where each part can be read, the part is the whole text.
-        let is_whole = part.kind == PartKind::Tables && tokens.len() <= part.end;
-        if is_whole || brace.seen <= at {
-            return Ok(Some(SyntaxPlace::Brace(brace)));
-        }
+    let part = first_with(&unread_parts(alloc, tokens)?, tokens, fault);
+    let word = match fault {
+        TextFault::Unsupported => part.unsupported_word(tokens),
+        _ => None,
+    };
+    let at = match word {
+        Some(at) => at,
+        None => part.first_refused(alloc, tokens)?,
+    };
+    // Where each part can be read, the part is the whole text.
+    let is_whole = part.kind == PartKind::Tables && tokens.len() <= part.end;
+    if let Some(brace) = unclosed_brace(alloc, tokens)?
+        && (is_whole || brace.seen <= at)
+    {
+        return Ok(Some(SyntaxPlace::Brace(brace)));
     }
-    if fault == TextFault::Syntax {
-        return begun_place(alloc, tokens, part, at);
+    match word {
+        Some(at) => Ok(Some(SyntaxPlace::Part { at, part })),
+        None => begun_place(alloc, tokens, part, at),
     }
-    Ok(Some(SyntaxPlace::Part { at, part }))
 }
 
 /// A token of a part, or else its first one, where some ruleset begins with the tokens before it.
@@ -90,14 +93,12 @@ fn begun_place(
     part: Part,
     at: usize,
 ) -> Result<Option<SyntaxPlace>, AllocError>
-    ensures { IfOk result (λ o. IfSome o (Begins tokens.now)) }
+    ensures { (fault : TextFault) → IfOk result (λ o. IfSome o (IsPlace fault tokens.now)) }
 {
-    if part.is_begun(alloc, tokens, at)? {
-        return Ok(Some(SyntaxPlace::Part { at, part }));
-    }
-    let at = part.first;
-    if part.is_begun(alloc, tokens, at)? {
-        return Ok(Some(SyntaxPlace::Part { at, part }));
+    for at in [at, part.first] {
+        if part.is_begun(alloc, tokens, at)? {
+            return Ok(Some(SyntaxPlace::Part { at, part }));
+        }
     }
     Ok(None)
 }
@@ -105,20 +106,17 @@ fn begun_place(
 /// The first of some parts, for unsupported words the first that has one; the whole where there is
 /// none.
 fn first_with(parts: &[Part], tokens: &[Token<'_>], fault: TextFault) -> Part {
-    for part in parts {
-        if fault == TextFault::Unsupported && part.unsupported_word(tokens).is_some() {
-            return *part;
-        }
-    }
-    let whole = Part {
+    let is_unsupported = fault == TextFault::Unsupported;
+    let mut all = parts.iter();
+    let wanted = all.find(|part| is_unsupported && part.unsupported_word(tokens).is_some());
+    wanted.or(parts.first()).copied().unwrap_or(Part {
         kind: PartKind::Tables,
         start: 0,
         first: 0,
         end: tokens.len(),
         next: tokens.len(),
         item: None,
-    };
-    parts.first().copied().unwrap_or(whole)
+    })
 }
 
 /// The token at which a part has its fault: its unsupported word, or the first one that the grammar
@@ -132,10 +130,8 @@ pub fn place_in(
     part: Part,
     fault: TextFault,
 ) -> Result<usize, AllocError> {
-    if fault == TextFault::Unsupported {
-        if let Some(word) = part.unsupported_word(tokens) {
-            return Ok(word);
-        }
+    match part.unsupported_word(tokens) {
+        Some(word) if fault == TextFault::Unsupported => Ok(word),
+        _ => part.first_refused(alloc, tokens),
     }
-    part.first_refused(alloc, tokens)
 }

@@ -6,16 +6,13 @@
 
 mod brace_parts;
 mod enclosing;
-mod lines;
-mod masking;
 mod part;
 mod position;
-mod showing;
 
-pub use brace_parts::{Level, Span, spans};
+pub use brace_parts::{Level, Span, box_lines, spans};
 pub use enclosing::Outline;
-pub use lines::box_lines;
-pub use masking::mask;
-pub use part::{Words, bytes_of, holds, part_around, rest_from, shown, up_to};
-pub use position::{Position, line_at, position_at};
-pub use showing::show;
+pub use part::{
+    Words, bytes_of, holds, mask, part_around, rest_from, shown, span_of, tokens_in, tokens_of,
+    up_to,
+};
+pub use position::{Position, position_at, show};

@@ -5,10 +5,23 @@ use std::alloc::{AllocError, Global};
 
 /// The bytes of a part; none where it doesn't lie within the text.
 pub fn bytes_of(text: &[u8], part: Span) -> &[u8] {
-    if part.start <= part.end && part.end <= text.len() {
-        return &text[part.start..part.end];
+    text.get(part.start..part.end).unwrap_or(&[])
+}
+
+/// Overwrites parts of the text with blanks, and keeps line ends, so that offsets stay. A part that
+/// doesn't lie within the text is ignored.
+pub fn mask(text: &mut [u8], parts: &[Span]) {
+    for part in parts {
+        if part.start <= part.end && part.end <= text.len() {
+            blank(&mut text[part.start..part.end]);
+        }
     }
-    &[]
+}
+
+fn blank(text: &mut [u8]) {
+    for byte in text.iter_mut().filter(|byte| **byte != b'\n') {
+        *byte = b' ';
+    }
 }
 
 /// A part as text; empty where it isn't UTF-8.
@@ -39,12 +52,7 @@ pub fn holds(part: Span, offset: usize) -> bool {
 
 /// The first of some parts in which an offset lies.
 pub fn part_around(parts: &[Span], offset: usize) -> Option<Span> {
-    for part in parts {
-        if holds(*part, offset) {
-            return Some(*part);
-        }
-    }
-    None
+    parts.iter().copied().find(|part| holds(*part, offset))
 }
 
 /// The words, strings, numbers and marks of a part of a ruleset, as text; no newlines.
@@ -59,12 +67,7 @@ impl<'a> Words<'a> {
     /// # Errors
     /// `AllocError` for want of memory.
     pub fn of(alloc: Global, text: &'a [u8], part: Span) -> Result<Words<'a>, AllocError> {
-        let mut tokens = tokens_of(alloc, bytes_of(text, part))?;
-        for token in &mut tokens {
-            token.start = token.start.saturating_add(part.start);
-        }
-        tokens.retain(is_word);
-        Ok(Words { tokens })
+        Words::among(alloc, &tokens_in(alloc, text, part)?)
     }
 
     /// The words among some tokens.
@@ -73,7 +76,7 @@ impl<'a> Words<'a> {
     /// `AllocError` for want of memory.
     pub fn among(alloc: Global, tokens: &[Token<'a>]) -> Result<Words<'a>, AllocError> {
         let mut tokens = tokens.to_vec(alloc)?;
-        tokens.retain(is_word);
+        tokens.retain(|token| !matches!(token.kind, TokenKind::NewLine));
         Ok(Words { tokens })
     }
 
@@ -87,11 +90,7 @@ impl<'a> Words<'a> {
 
     /// The bytes of a word.
     pub fn span(&self, number: usize) -> Option<Span> {
-        let token = self.tokens.get(number)?;
-        Some(Span {
-            start: token.start,
-            end: token.start.saturating_add(token.text.len()),
-        })
+        self.tokens.get(number).map(span_of)
     }
 
     /// The word so many places before a number; empty where there is none.
@@ -108,27 +107,14 @@ impl<'a> Words<'a> {
 
     /// How many words begin before an offset.
     pub fn count_before(&self, offset: usize) -> usize {
-        for (number, token) in self.tokens.iter().enumerate() {
-            if offset <= token.start {
-                return number;
-            }
-        }
-        self.tokens.len()
-    }
-
-    /// The number of a word, where it is one of those before a number.
-    pub fn find_before(&self, number: usize, wanted: &str) -> Option<usize> {
-        for at in 0..number {
-            if self.get(at) == wanted {
-                return Some(at);
-            }
-        }
-        None
+        let mut tokens = self.tokens.iter();
+        let found = tokens.position(|token| offset <= token.start);
+        found.unwrap_or(self.tokens.len())
     }
 
     /// Whether a word is one of those before a number.
     pub fn has_before(&self, number: usize, wanted: &str) -> bool {
-        self.find_before(number, wanted).is_some()
+        (0..number).any(|at| self.get(at) == wanted)
     }
 
     /// Whether a word is one of all.
@@ -137,20 +123,34 @@ impl<'a> Words<'a> {
     }
 }
 
+/// The bytes of a token.
+pub fn span_of(token: &Token<'_>) -> Span {
+    Span {
+        start: token.start,
+        end: token.start.saturating_add(token.text.len()),
+    }
+}
+
+/// The tokens of a part of a text, up to what is none, by their places in the text.
+///
+/// # Errors
+/// `AllocError` for want of memory.
+pub fn tokens_in(alloc: Global, text: &[u8], part: Span) -> Result<Vec<Token<'_>>, AllocError> {
+    let mut tokens = tokens_of(alloc, bytes_of(text, part))?;
+    for token in &mut tokens {
+        token.start = token.start.saturating_add(part.start);
+    }
+    Ok(tokens)
+}
+
 /// The tokens of a text, up to what is none.
-pub(crate) fn tokens_of(alloc: Global, text: &[u8]) -> Result<Vec<Token<'_>>, AllocError> {
-    let known = Span {
-        start: 0,
-        end: fault_start(text),
-    };
-    match lex(alloc, bytes_of(text, known)) {
+///
+/// # Errors
+/// `AllocError` for want of memory.
+pub fn tokens_of(alloc: Global, text: &[u8]) -> Result<Vec<Token<'_>>, AllocError> {
+    match lex(alloc, text.get(..fault_start(text)).unwrap_or(&[])) {
         Ok(tokens) => Ok(tokens),
         Err(LexError::Refused(_)) => Ok(Vec::new(alloc)),
         Err(LexError::Memory) => Err(AllocError),
     }
-}
-
-/// Whether a token is no newline.
-fn is_word(token: &Token<'_>) -> bool {
-    !matches!(token.kind, TokenKind::NewLine)
 }

@@ -1,8 +1,10 @@
-//! Lines and columns.
-ghost use Rattle.std.specs.Prelude.{◌≡◌, ◌≤◌, ◌+◌, IfSome, length};
-ghost use Rattle.fault_places.specs.Within.{IsWithin};
+//! Lines and columns, and how they are shown.
+ghost use Rattle.std.specs.Prelude.{◌≡◌, ◌≤◌, ◌+◌, length};
 
-use crate::brace_parts::Span;
+use std::alloc::{AllocError, Global};
+
+/// How many bytes of a line are shown on either side of a location.
+const MAX_SHOWN_BYTES: usize = 120;
 
 /// The line and column of an offset, and the extent of its line.
 #[derive(Clone, Copy)]
@@ -25,57 +27,51 @@ pub fn position_at(text: &[u8], offset: usize) -> Position
     ensures lines { result.line ≤ offset + 1 }
     ensures columns { result.start + result.column ≡ offset + 1 }
 {
-    let mut line = 0;
-    let mut start = 0;
-    for at in 0..offset {
-        if text[at] == b'\n' {
-            line += 1;
-            start = at + 1;
-        }
-    }
+    let (before, behind) = text.split_at(offset);
+    let last = before.iter().rposition(|byte| *byte == b'\n');
+    let start = match last {
+        Some(at) => at + 1,
+        None => 0,
+    };
+    let length = behind.iter().position(|byte| *byte == b'\n');
     Position {
-        line: line + 1,
+        line: before.iter().filter(|byte| **byte == b'\n').count() + 1,
         column: offset - start + 1,
         start,
-        end: line_end(text, offset),
+        end: offset + length.unwrap_or(behind.len()),
     }
 }
 
-// The offset at which the line of an offset ends.
-fn line_end(text: &[u8], offset: usize) -> usize
-    requires { offset ≤ length text.now }
-    ensures within { result ≤ length text.now }
-    ensures behind { offset ≤ result }
-{
-    for at in offset..text.len() {
-        if text[at] == b'\n' {
-            return at;
-        }
+/// Writes the line and column of an offset, and the line with a caret under the column.
+pub fn show(
+    alloc: Global,
+    lines: &mut String,
+    path: &str,
+    text: &[u8],
+    offset: usize,
+) -> Result<(), AllocError> {
+    if offset > text.len() {
+        return Ok(());
     }
-    text.len()
+    let at = position_at(text, offset);
+    writeln!(lines, "{path}:{}:{}", at.line, at.column)?;
+    let start = at.start.max(offset.saturating_sub(MAX_SHOWN_BYTES));
+    let end = at.end.min(offset.saturating_add(MAX_SHOWN_BYTES));
+    let (Some(line), Some(before)) = (text.get(start..end), text.get(start..offset)) else {
+        return Ok(());
+    };
+    if let Ok(shown) = str::from_utf8(line) {
+        writeln!(lines, "{shown}\n{}", caret(alloc, before)?.as_str())?;
+    }
+    Ok(())
 }
 
-/// The line with this number, which counts from 1.
-pub fn line_at(text: &[u8], number: usize) -> Option<Span>
-    ensures { IfSome result (IsWithin (length text.now)) }
-{
-    let mut line = 1;
-    let mut start = 0;
-    for (at, byte) in text.iter().enumerate() {
-        if *byte != b'\n' {
-            continue;
-        }
-        if line == number {
-            return Some(Span { start, end: at });
-        }
-        line += 1;
-        start = at + 1;
+/// A caret under the byte that follows these; tabs stay, so that it is aligned.
+fn caret(alloc: Global, before: &[u8]) -> Result<String, AllocError> {
+    let mut line = String::new(alloc);
+    for byte in before {
+        line.push(if *byte == b'\t' { '\t' } else { ' ' })?;
     }
-    if line == number {
-        return Some(Span {
-            start,
-            end: text.len(),
-        });
-    }
-    None
+    line.push('^')?;
+    Ok(line)
 }

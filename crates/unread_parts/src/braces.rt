@@ -1,51 +1,32 @@
-//! Braces.
+//! Braces, and the tokens that end a line.
 use nft_lexer::{Punctuator, Token, TokenKind};
 use std::alloc::{AllocError, Global};
+use token_reader::{after_end, is_rule_end};
 
-/// The kind of a token; that of a newline behind the last one.
-pub(crate) fn kind_at(tokens: &[Token<'_>], at: usize) -> TokenKind {
-    match tokens.get(at) {
-        Some(token) => token.kind,
-        None => TokenKind::NewLine,
-    }
-}
-
-/// Whether a token is this word.
-pub(crate) fn is_word(tokens: &[Token<'_>], at: usize, word: &[u8]) -> bool {
-    match tokens.get(at) {
-        Some(token) => matches!(token.kind, TokenKind::Word) && token.text == word,
-        None => false,
-    }
+/// Whether a token has this text, which is none of a string.
+pub(crate) fn is(tokens: &[Token<'_>], at: usize, text: &[u8]) -> bool {
+    tokens.get(at).is_some_and(|token| token.text == text)
 }
 
 /// How many braces are open behind a token, with so many before it; none for one that closes no brace.
-pub(crate) fn open_behind(kind: TokenKind, open: usize) -> Option<usize> {
-    match kind {
+fn open_behind(token: &Token<'_>, open: usize) -> Option<usize> {
+    match token.kind {
         TokenKind::Punctuator(Punctuator::OpenBrace) => Some(open.saturating_add(1)),
         TokenKind::Punctuator(Punctuator::CloseBrace) => open.checked_sub(1),
         _ => Some(open),
     }
 }
 
-/// How many braces are open behind some tokens, with so many before them.
-pub fn open_braces(tokens: &[Token<'_>], before: usize) -> usize {
-    let mut open = before;
-    for token in tokens {
-        open = open_behind(token.kind, open).unwrap_or(0);
-    }
-    open
+/// How many braces are open behind some tokens.
+pub fn open_braces(tokens: &[Token<'_>]) -> usize {
+    let mut tokens = tokens.iter();
+    tokens.fold(0, |open, token| open_behind(token, open).unwrap_or(0))
 }
 
 /// Whether each closing brace has an opening one, and none stays open.
 pub fn braces_match(tokens: &[Token<'_>]) -> bool {
-    let mut open = 0;
-    for token in tokens {
-        match open_behind(token.kind, open) {
-            Some(left) => open = left,
-            None => return false,
-        }
-    }
-    open == 0
+    let mut tokens = tokens.iter();
+    tokens.try_fold(0, |open, token| open_behind(token, open)) == Some(0)
 }
 
 /// A brace that is left open, by its token.
@@ -65,65 +46,57 @@ pub fn unclosed_brace(
     alloc: Global,
     tokens: &[Token<'_>],
 ) -> Result<Option<OpenBrace>, AllocError> {
-    let mut open = Vec::new(alloc);
-    let mut seen = 0;
-    let mut begins_line = true;
+    let (mut open, mut seen) = (Vec::new(alloc), 0);
     for (at, token) in tokens.iter().enumerate() {
-        if let TokenKind::NewLine = token.kind {
-            begins_line = true;
-            continue;
-        }
-        seen = at;
-        if begins_line && begins_outside(tokens, at, open.len()) {
-            break;
-        }
-        begins_line = false;
         match token.kind {
+            TokenKind::NewLine => continue,
+            _ if begins_outside(tokens, at, open.len()) => {
+                seen = at;
+                break;
+            }
             TokenKind::Punctuator(Punctuator::OpenBrace) => open.push(at)?,
             TokenKind::Punctuator(Punctuator::CloseBrace) => {
                 let _ = open.pop();
             }
             _ => {}
         }
+        seen = at;
     }
-    Ok(match open.pop() {
-        Some(brace) => Some(OpenBrace { brace, seen }),
-        None => None,
-    })
+    Ok(open.pop().map(|brace| OpenBrace { brace, seen }))
 }
 
-/// Whether the line at a token begins what can't be nested so deep: a table in any brace, or a chain,
-/// a set or a map in two.
+/// Whether a line begins at a token with what can't be nested so deep: a table in any brace, or a
+/// chain, a set or a map in two.
 fn begins_outside(tokens: &[Token<'_>], at: usize, depth: usize) -> bool {
-    let is_table = depth > 0 && is_word(tokens, at, b"table");
-    let is_item = depth > 1
-        && (is_word(tokens, at, b"chain")
-            || is_word(tokens, at, b"set")
-            || is_word(tokens, at, b"map"));
-    (is_table || is_item) && brace_of_line(tokens, at).is_some()
+    let is_item = is(tokens, at, b"chain") || is(tokens, at, b"set") || is(tokens, at, b"map");
+    let begins_line = at == 0 || is(tokens, at.saturating_sub(1), b"\n");
+    (depth > 1 && is_item || depth > 0 && is(tokens, at, b"table"))
+        && begins_line
+        && brace_of_line(tokens, at).is_some()
 }
 
 /// The first opening brace of the line from a token on.
 pub(crate) fn brace_of_line(tokens: &[Token<'_>], from: usize) -> Option<usize> {
-    for at in from..tokens.len() {
-        match kind_at(tokens, at) {
-            TokenKind::Punctuator(Punctuator::OpenBrace) => return Some(at),
-            TokenKind::NewLine
-            | TokenKind::Punctuator(Punctuator::Semicolon | Punctuator::CloseBrace) => return None,
-            _ => {}
-        }
-    }
-    None
+    let mut line = (from..tokens.len()).take_while(|at| !is_rule_end(tokens, *at));
+    line.find(|at| is(tokens, *at, b"{"))
 }
 
 /// The first token from one on that is no newline, before the end.
 pub(crate) fn after_newlines(tokens: &[Token<'_>], from: usize, end: usize) -> usize {
-    for at in from..end.min(tokens.len()) {
-        if let Some(token) = tokens.get(at)
-            && !matches!(token.kind, TokenKind::NewLine)
-        {
-            return at;
+    (from..end)
+        .find(|at| !is(tokens, *at, b"\n"))
+        .unwrap_or(end)
+}
+
+/// The brace that closes the one before a token; the end of the line at it, if that ends before.
+pub(crate) fn closing_brace(tokens: &[Token<'_>], first: usize, or_line: bool) -> usize {
+    let mut open = 0;
+    for (at, token) in tokens.iter().enumerate().skip(first) {
+        let ends_line = or_line && open == 0 && after_end(tokens, at).is_some();
+        match open_behind(token, open) {
+            Some(left) if !ends_line => open = left,
+            _ => return at,
         }
     }
-    end
+    tokens.len()
 }

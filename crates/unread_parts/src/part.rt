@@ -1,6 +1,10 @@
 //! Parts of a ruleset that are read by themselves.
-use nft_lexer::{Token, TokenKind};
-use nft_rulesets::{Elements, EndedRule, Pairs, TableItem, instead_of, ruleset};
+ghost use Rattle.std.specs.Prelude.{IfSome};
+ghost use Rattle.ruleset_beginnings.specs.Beginnings.{IsUnsupportedAt};
+
+use nft_lexer::Token;
+use nft_rulesets::{Elements, EndedRule, Pairs, TableItem, ruleset};
+use ruleset_beginnings::{joined, unsupported_word};
 use std::alloc::{AllocError, Global};
 use token_reader::{Production, skip_ends};
 
@@ -37,37 +41,30 @@ pub struct Part {
 }
 
 impl PartKind {
-    /// Whether all of the tokens are one such part, with what ends it: elements are read as a list up to
-    /// its brace.
-    pub(crate) fn reads(self, alloc: Global, tokens: &[Token<'_>]) -> Result<bool, AllocError> {
-        let end = match self {
-            PartKind::Tables => return Ok(ruleset(alloc, tokens)?.is_some()),
-            PartKind::Item => end_of::<TableItem>(alloc, tokens, 0)?,
-            PartKind::Rule => end_of::<EndedRule>(alloc, tokens, 0)?,
-            PartKind::Element => end_of::<Elements>(alloc, tokens, 0)?,
-            PartKind::Pair => end_of::<Pairs>(alloc, tokens, 0)?,
+    /// Whether it stands in a list, up to whose brace it is read.
+    pub fn is_in_list(self) -> bool {
+        matches!(self, PartKind::Element | PartKind::Pair)
+    }
+
+    /// Whether some tokens with those of a text are one such part, with what ends it.
+    pub(crate) fn reads(
+        self,
+        alloc: Global,
+        tokens: &[Token<'_>],
+        behind: &str,
+    ) -> Result<bool, AllocError> {
+        let Some(tokens) = joined(alloc, tokens, behind)? else {
+            return Ok(false);
         };
-        Ok(match end {
-            Some(end) => tokens.len()
-                <= skip_ends(tokens, end.saturating_add(self.braces_behind())),
-            None => false,
-        })
-    }
-
-    /// How many braces close what the part is in, and are read with it.
-    fn braces_behind(self) -> usize {
-        match self {
-            PartKind::Element | PartKind::Pair => 1,
-            _ => 0,
-        }
-    }
-
-    /// What is behind the part where it is read.
-    pub(crate) fn ending(self) -> &'static str {
-        match self {
-            PartKind::Element | PartKind::Pair => "}\n",
-            _ => "\n",
-        }
+        let end = match self {
+            PartKind::Tables => return Ok(ruleset(alloc, &tokens)?.is_some()),
+            PartKind::Item => end_of::<TableItem>(alloc, &tokens, 0)?,
+            PartKind::Rule => end_of::<EndedRule>(alloc, &tokens, 0)?,
+            PartKind::Element => end_of::<Elements>(alloc, &tokens, 0)?,
+            PartKind::Pair => end_of::<Pairs>(alloc, &tokens, 0)?,
+        };
+        let brace = self.is_in_list() as usize;
+        Ok(end.is_some_and(|end| tokens.len() <= skip_ends(&tokens, end.saturating_add(brace))))
     }
 }
 
@@ -77,22 +74,15 @@ pub(crate) fn end_of<P: Production>(
     tokens: &[Token<'_>],
     at: usize,
 ) -> Result<Option<usize>, AllocError> {
-    Ok(match P::read(alloc, tokens, at)? {
-        Some((_part, end)) => Some(end),
-        None => None,
-    })
+    Ok(P::read(alloc, tokens, at)?.map(|read| read.1))
 }
 
 impl Part {
     /// The first of its tokens that is an unsupported word of nft(8).
-    pub fn unsupported_word(self, tokens: &[Token<'_>]) -> Option<usize> {
-        for at in self.first..self.end.min(tokens.len()) {
-            let token = tokens.get(at)?;
-            if matches!(token.kind, TokenKind::Word) && instead_of(token.text).is_some() {
-                return Some(at);
-            }
-        }
-        None
+    pub fn unsupported_word(self, tokens: &[Token<'_>]) -> Option<usize>
+        ensures { IfSome result (IsUnsupportedAt tokens.now) }
+    {
+        unsupported_word(tokens, self.first, self.end)
     }
 
     /// The tokens that are read, up to one.

@@ -2,81 +2,30 @@
 //!
 //! Whether it allows the start of a part is found by reading that with some endings, so the grammar
 //! isn't written down twice.
-use crate::beginnings::append;
-use crate::braces::{after_newlines, open_braces};
+use crate::braces::{after_newlines, is, open_braces};
 use crate::part::{Part, PartKind};
-use nft_lexer::{LexError, Token, lex};
+use nft_lexer::Token;
+use ruleset_beginnings::joined;
 use std::alloc::{AllocError, Global};
 
-/// What the start of a set or a map may lack before its closing brace: nothing, or its type.
+/// What a set or a map may lack before its closing brace: nothing, or its types.
 static TYPES: [&str; 3] = ["", "\ntype mark", "\ntype mark : mark"];
 
-/// The start of another part lacks nothing.
-static NOTHING: [&str; 1] = [""];
+/// What a part may lack, if it's one of those that have types.
+pub(crate) fn missing_types(has_types: bool) -> &'static [&'static str] {
+    if has_types { &TYPES } else { &TYPES[..1] }
+}
 
-/// Endings, one of which completes most starts that the grammar allows.
-static ENDINGS: [&str; 60] = [
-    "",
-    " 1",
-    " 1.2.3.4",
-    " syn",
-    " new",
-    " snat",
-    " x",
-    " \"a\"",
-    " accept",
-    " 1 }",
-    " x }",
-    " : 1",
-    " : accept",
-    " : accept }",
-    " 1 : accept }",
-    " \"a\" : accept }",
-    " : 1 }",
-    " 1 : 1 }",
-    " accept }",
-    " @s",
-    " @m",
-    " vmap @m",
-    " saddr 1.2.3.4",
-    " dport 1",
-    " type 1",
-    " mark 1",
-    " mark",
-    " saddr",
-    " dport",
-    " type",
-    " interval",
-    " map @m",
-    " saddr map @m",
-    " dport map @m",
-    " mark map @m",
-    " saddr @s",
-    " dport @s",
-    " mark @s",
-    " set 1",
-    " to 1.2.3.4",
-    " to : 1",
-    " packets 1 bytes 1",
-    " bytes 1",
-    " 1 bytes 1",
-    " syn == syn",
-    " == syn",
-    " ) == syn",
-    " syn ) == syn",
-    " syn )",
-    " )",
-    " filter hook input priority 0",
-    " hook input priority 0",
-    " input priority 0",
-    " priority 0",
-    " = { 1 }",
-    " mark : mark",
-    " {\n}",
-    " x {\n}",
-    " {\ntype mark\n}",
-    " {\ntype mark : mark\n}",
-];
+/// Endings with a bar between two, one of which completes most starts that the grammar allows.
+const ENDINGS: &str =
+    "| 1| 1.2.3.4| syn| new| snat| x| \"a\"| accept| 1 }| x }| : 1| : accept| : accept }\
+     | 1 : accept }| \"a\" : accept }| : 1 }| 1 : 1 }| accept }| @s| @m| vmap @m\
+     | saddr 1.2.3.4| dport 1| type 1| mark 1| mark| saddr| dport| type| interval| map @m\
+     | saddr map @m| dport map @m| mark map @m| saddr @s| dport @s| mark @s| set 1\
+     | to 1.2.3.4| to : 1| packets 1 bytes 1| bytes 1| 1 bytes 1| syn == syn| == syn\
+     | ) == syn| syn ) == syn| syn )| )| filter hook input priority 0| hook input priority 0\
+     | input priority 0| priority 0| = { 1 }| mark : mark| {\n}| x {\n}| {\ntype mark\n}\
+     | {\ntype mark : mark\n}";
 
 /// So many tokens of a part are tried one by one; what is behind them is bisected.
 const MAX_LINEAR: usize = 256;
@@ -95,27 +44,9 @@ impl PartKind {
         part: &[Token<'_>],
         text: &str,
     ) -> Result<bool, AllocError> {
-        let mut behind = String::new(alloc);
-        behind.push_str(text)?;
-        behind.push_str(self.ending())?;
-        self.reads_before(alloc, part, behind.as_str())
-    }
-
-    /// The same, where the text has what is behind the part, too.
-    fn reads_before(
-        self,
-        alloc: Global,
-        part: &[Token<'_>],
-        behind: &str,
-    ) -> Result<bool, AllocError> {
-        let mut tokens = Vec::new(alloc);
-        append(&mut tokens, part)?;
-        match lex(alloc, behind.as_bytes()) {
-            Ok(behind) => append(&mut tokens, &behind)?,
-            Err(LexError::Refused(_)) => return Ok(false),
-            Err(LexError::Memory) => return Err(AllocError),
-        }
-        self.reads(alloc, &tokens)
+        let ending = if self.is_in_list() { "}\n" } else { "\n" };
+        let behind = format!(in alloc; "{text}{ending}")?;
+        self.reads(alloc, part, behind.as_str())
     }
 
     /// Whether some ending completes the start of a part with a text behind it.
@@ -128,70 +59,44 @@ impl PartKind {
         start: &[Token<'_>],
         text: &str,
     ) -> Result<bool, AllocError> {
-        Ok(self.completion(alloc, start, text)?.is_some())
+        match joined(alloc, start, text)? {
+            Some(tokens) => Ok(self.completion(alloc, &tokens)?.is_some()),
+            None => Ok(false),
+        }
     }
 
-    /// What completes the start of a part with a text behind it.
+    /// What completes the start of a part.
     pub(crate) fn completion(
         self,
         alloc: Global,
         start: &[Token<'_>],
-        text: &str,
     ) -> Result<Option<String>, AllocError> {
-        let open = open_behind(alloc, start, text)?;
-        for missing in self.missing(start) {
-            let closing = closing(alloc, open, missing)?;
-            if let Some(ending) = self.ending_of(alloc, start, text, closing.as_str())? {
-                let mut completion = String::new(alloc);
-                completion.push_str(ending)?;
-                completion.push_str(closing.as_str())?;
-                return Ok(Some(completion));
+        let open = open_braces(start);
+        let has_types = self == PartKind::Item && !is(start, 0, b"chain");
+        for types in missing_types(has_types) {
+            let closing = closing(alloc, open, types)?;
+            let found = self.completion_before(alloc, start, closing.as_str())?;
+            if found.is_some() {
+                return Ok(found);
             }
         }
         Ok(None)
     }
 
-    /// What the start of a part may lack before its closing brace.
-    fn missing(self, start: &[Token<'_>]) -> &'static [&'static str] {
-        let is_chain = match start.first() {
-            Some(token) => token.text == b"chain".as_slice(),
-            None => false,
-        };
-        if self == PartKind::Item && !is_chain {
-            &TYPES
-        } else {
-            &NOTHING
-        }
-    }
-
-    /// The first of the endings that completes the start of a part with a text behind it.
-    fn ending_of(
+    /// The first of the endings that completes the start of a part before a text, with that.
+    fn completion_before(
         self,
         alloc: Global,
         start: &[Token<'_>],
-        text: &str,
         closing: &str,
-    ) -> Result<Option<&'static str>, AllocError> {
-        for ending in &ENDINGS {
-            let mut behind = String::new(alloc);
-            behind.push_str(text)?;
-            behind.push_str(ending)?;
-            behind.push_str(closing)?;
+    ) -> Result<Option<String>, AllocError> {
+        for ending in ENDINGS.split('|') {
+            let behind = format!(in alloc; "{ending}{closing}")?;
             if self.reads_with(alloc, start, behind.as_str())? {
-                return Ok(Some(*ending));
+                return Ok(Some(behind));
             }
         }
         Ok(None)
-    }
-}
-
-/// How many braces some tokens leave open, with a text behind them.
-fn open_behind(alloc: Global, tokens: &[Token<'_>], text: &str) -> Result<usize, AllocError> {
-    let open = open_braces(tokens, 0);
-    match lex(alloc, text.as_bytes()) {
-        Ok(behind) => Ok(open_braces(&behind, open)),
-        Err(LexError::Refused(_)) => Ok(open),
-        Err(LexError::Memory) => Err(AllocError),
     }
 }
 
@@ -247,10 +152,10 @@ impl Part {
     ) -> Result<usize, AllocError> {
         let (mut good, mut bad) = (allowed, self.end.saturating_add(1));
         for _ in 0..usize::BITS {
-            if bad.saturating_sub(good) <= 1 {
+            let middle = good.saturating_add(bad.saturating_sub(good) / 2);
+            if middle == good {
                 break;
             }
-            let middle = good.saturating_add(bad.saturating_sub(good) / 2);
             if self.allows_up_to(alloc, tokens, middle)? {
                 good = middle;
             } else {
@@ -267,6 +172,7 @@ impl Part {
         tokens: &[Token<'_>],
         end: usize,
     ) -> Result<bool, AllocError> {
-        self.kind.allows(alloc, self.tokens_before(tokens, end), "")
+        let start = self.tokens_before(tokens, end);
+        Ok(self.kind.completion(alloc, start)?.is_some())
     }
 }

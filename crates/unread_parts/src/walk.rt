@@ -1,7 +1,7 @@
 //! Walks through a ruleset by its levels.
-use crate::braces::{after_newlines, brace_of_line, is_word, kind_at, open_behind};
+use crate::braces::{after_newlines, brace_of_line, closing_brace, is};
 use crate::part::{Part, PartKind, end_of};
-use nft_lexer::{Punctuator, Token, TokenKind};
+use nft_lexer::Token;
 use nft_rulesets::{
     AnyField, AnyTable, Elements, EndedRule, MapTypes, Pairs, SetTypes, TableItem, block_start,
     chain_start, elements_start, ruleset_start, table_start,
@@ -19,7 +19,9 @@ pub fn unread_parts(alloc: Global, tokens: &[Token<'_>]) -> Result<Vec<Part>, Al
         tokens,
         found: Vec::new(alloc),
     };
-    walk.read_tables()?;
+    for &(first, end) in &walk.unread::<AnyTable>(ruleset_start(tokens), tokens.len())? {
+        walk.read_table(first, end)?;
+    }
     Ok(walk.found)
 }
 
@@ -32,6 +34,11 @@ struct Walk<'a, 't> {
 }
 
 impl<'a, 't> Walk<'a, 't> {
+    /// Whether a token is this word.
+    fn is(&self, at: usize, word: &[u8]) -> bool {
+        is(self.tokens, at, word)
+    }
+
     fn add(&mut self, kind: PartKind, first: usize, end: usize) -> Result<(), AllocError> {
         self.found.push(Part {
             kind,
@@ -44,52 +51,44 @@ impl<'a, 't> Walk<'a, 't> {
         Ok(())
     }
 
-    fn read_tables(&mut self) -> Result<(), AllocError> {
-        let mut at = ruleset_start(self.tokens);
-        for _ in 0..self.tokens.len() {
-            if self.tokens.len() <= at {
-                break;
-            }
-            let end = match end_of::<AnyTable>(self.alloc, self.tokens, at)? {
-                Some(end) => end,
-                None => self.read_table(at)?,
-            };
-            at = skip_ends(self.tokens, end);
-        }
-        Ok(())
-    }
-
-    /// Reads the items of a table that can't be read, and returns its end.
-    fn read_table(&mut self, first: usize) -> Result<usize, AllocError> {
-        let end = self.block_end(first);
-        let before = self.found.len();
-        if let Some((_name, start)) = table_start(self.tokens, first) {
-            self.read_items(start, end.saturating_sub(1))?;
-        }
-        if self.found.len() == before {
-            self.add(PartKind::Tables, first, end)?;
-        }
-        Ok(end)
-    }
-
-    fn read_items(&mut self, start: usize, end: usize) -> Result<(), AllocError> {
+    /// The blocks P between two tokens that can't be read, each by its first token and its end.
+    fn unread<P: Production>(
+        &self,
+        start: usize,
+        end: usize,
+    ) -> Result<Vec<(usize, usize)>, AllocError> {
+        let mut unread = Vec::new(self.alloc);
         let mut at = start;
         for _ in start..end {
             if end <= at {
                 break;
             }
-            let after = match end_of::<TableItem>(self.alloc, self.tokens, at)? {
-                Some(after) => after,
-                None => self.read_item(at)?,
-            };
+            let read = end_of::<P>(self.alloc, self.tokens, at)?;
+            let after = read.unwrap_or(self.block_end(at));
+            if read.is_none() {
+                unread.push((at, after))?;
+            }
             at = skip_ends(self.tokens, after);
+        }
+        Ok(unread)
+    }
+
+    /// Reads the items of a table that can't be read.
+    fn read_table(&mut self, first: usize, end: usize) -> Result<(), AllocError> {
+        let before = self.found.len();
+        if let Some((_name, start)) = table_start(self.tokens, first) {
+            for &(item, after) in &self.unread::<TableItem>(start, end.saturating_sub(1))? {
+                self.read_item(item, after)?;
+            }
+        }
+        if self.found.len() == before {
+            self.add(PartKind::Tables, first, end)?;
         }
         Ok(())
     }
 
-    /// Reads the parts of an item that can't be read, and returns its end.
-    fn read_item(&mut self, item: usize) -> Result<usize, AllocError> {
-        let end = self.block_end(item);
+    /// Reads the lines of an item that can't be read.
+    fn read_item(&mut self, item: usize, end: usize) -> Result<(), AllocError> {
         let before = self.found.len();
         let last = end.saturating_sub(1);
         if let Some((_start, at)) = chain_start(self.alloc, self.tokens, item)? {
@@ -102,10 +101,10 @@ impl<'a, 't> Walk<'a, 't> {
         if self.found.len() == before {
             self.add(PartKind::Item, item, end)?;
         }
-        Ok(end)
+        Ok(())
     }
 
-    /// Reads the lines P of an item from a token on.
+    /// Reads the lines P of an item between two tokens.
     fn read_lines<P: Production>(
         &mut self,
         item: usize,
@@ -117,160 +116,91 @@ impl<'a, 't> Walk<'a, 't> {
             if end <= at {
                 break;
             }
-            let after = self.line_end(at).min(end);
-            let read = end_of::<P>(self.alloc, self.tokens, at)?;
-            let next = if read == Some(after) {
-                after
-            } else {
-                self.read_line(item, at, after, end)?
-            };
-            at = skip_ends(self.tokens, next);
+            let mut after = closing_brace(self.tokens, at, true).min(end);
+            if end_of::<P>(self.alloc, self.tokens, at)? != Some(after) {
+                let next = self.after_policy(at, after).min(end);
+                self.read_line(item, at, after, next)?;
+                after = next;
+            }
+            at = skip_ends(self.tokens, after);
         }
         Ok(())
     }
 
-    /// Adds a line of an item that can't be read, of a list the elements that can't be, and returns where
-    /// reading goes on.
+    /// Adds a line of an item that can't be read, of a list the elements that can't be.
     fn read_line(
         &mut self,
         item: usize,
         first: usize,
         end: usize,
-        last: usize,
-    ) -> Result<usize, AllocError> {
+        next: usize,
+    ) -> Result<(), AllocError> {
         let before = self.found.len();
         if let Some(start) = elements_start(self.tokens, first) {
             self.read_elements(item, start, end.saturating_sub(1))?;
         }
         if self.found.len() > before {
-            return Ok(end);
+            return Ok(());
         }
-        let is_rule = is_word(self.tokens, item, b"chain") && !self.is_note(first);
-        let next = self.after_policy(first, end).min(last);
-        let end = if is_rule { end } else { self.with_brace(end) };
+        let is_head = self.is(first, b"type") || self.is(first, b"policy");
+        let is_rule = self.is(item, b"chain") && !is_head && !self.is(first, b"comment");
+        let (kind, start, end) = if is_rule {
+            (PartKind::Rule, first, end)
+        } else {
+            // With the brace behind it.
+            let brace = self.is(end, b"}") as usize;
+            (PartKind::Item, item, end.saturating_add(brace))
+        };
         self.found.push(Part {
-            kind: if is_rule {
-                PartKind::Rule
-            } else {
-                PartKind::Item
-            },
-            start: if is_rule { first } else { item },
+            kind,
+            start,
             first,
             end,
             next,
             item: Some(item),
         })?;
-        Ok(next)
-    }
-
-    /// The position behind a line that ends with a brace.
-    fn with_brace(&self, end: usize) -> usize {
-        match kind_at(self.tokens, end) {
-            TokenKind::Punctuator(Punctuator::CloseBrace) => end.saturating_add(1),
-            _ => end,
-        }
+        Ok(())
     }
 
     /// The end of a line; behind a chain's type that of the policy, which can't stand without it.
     fn after_policy(&self, first: usize, end: usize) -> usize {
         let next = skip_ends(self.tokens, end);
-        if is_word(self.tokens, first, b"type") && is_word(self.tokens, next, b"policy") {
-            self.line_end(next)
-        } else {
-            end
+        if self.is(first, b"type") && self.is(next, b"policy") {
+            return closing_brace(self.tokens, next, true);
         }
-    }
-
-    /// Whether a line of a chain is a part of its head, or a comment.
-    fn is_note(&self, first: usize) -> bool {
-        is_word(self.tokens, first, b"type")
-            || is_word(self.tokens, first, b"policy")
-            || is_word(self.tokens, first, b"comment")
+        end
     }
 
     /// Adds the elements of a list that can't be read, each with the comma behind it.
     fn read_elements(&mut self, item: usize, start: usize, end: usize) -> Result<(), AllocError> {
-        let kind = if is_word(self.tokens, item, b"map") {
+        let kind = if self.is(item, b"map") {
             PartKind::Pair
         } else {
             PartKind::Element
         };
-        let mut first = start;
-        for at in start..end {
-            let is_last = at.saturating_add(1) == end;
-            let is_comma = matches!(
-                kind_at(self.tokens, at),
-                TokenKind::Punctuator(Punctuator::Comma)
-            );
-            if !is_comma && !is_last {
-                continue;
+        let tokens = self.tokens;
+        let list = tokens.get(start..end).unwrap_or(&[]);
+        let mut from = start;
+        for element in list.split(|token| token.text == b",".as_slice()) {
+            let behind = from.saturating_add(element.len());
+            let first = after_newlines(tokens, from, behind);
+            let element = tokens.get(first..behind).unwrap_or(&[]);
+            from = behind.saturating_add(1);
+            if !element.is_empty() && !kind.reads_with(self.alloc, element, "")? {
+                self.add(kind, first, from.min(end))?;
             }
-            let behind = if is_comma { at } else { end };
-            self.read_element(kind, first, behind, is_comma)?;
-            first = at.saturating_add(1);
         }
         Ok(())
-    }
-
-    /// Adds an element that can't be read, if there is any.
-    fn read_element(
-        &mut self,
-        kind: PartKind,
-        from: usize,
-        end: usize,
-        has_comma: bool,
-    ) -> Result<(), AllocError> {
-        let first = after_newlines(self.tokens, from, end);
-        let element = self.tokens.get(first..end).unwrap_or(&[]);
-        if element.is_empty() || kind.reads_with(self.alloc, element, "")? {
-            return Ok(());
-        }
-        let end = if has_comma {
-            end.saturating_add(1)
-        } else {
-            end
-        };
-        self.add(kind, first, end)
-    }
-
-    /// The end of the line at a token: a newline, a semicolon or a closing brace that is in no further
-    /// braces.
-    fn line_end(&self, first: usize) -> usize {
-        let mut open = 0usize;
-        for at in first..self.tokens.len() {
-            match kind_at(self.tokens, at) {
-                TokenKind::NewLine | TokenKind::Punctuator(Punctuator::Semicolon) if open == 0 => {
-                    return at;
-                }
-                kind => match open_behind(kind, open) {
-                    Some(left) => open = left,
-                    None => return at,
-                },
-            }
-        }
-        self.tokens.len()
-    }
-
-    /// The brace that closes the one before a token.
-    fn closing_brace(&self, first: usize) -> usize {
-        let mut open = 0usize;
-        for at in first..self.tokens.len() {
-            match open_behind(kind_at(self.tokens, at), open) {
-                Some(left) => open = left,
-                None => return at,
-            }
-        }
-        self.tokens.len()
     }
 
     /// The position behind the braces that open in the line at a token, or else its end; behind a brace
     /// that closes nothing.
     fn block_end(&self, first: usize) -> usize {
         let end = match brace_of_line(self.tokens, first) {
-            Some(brace) => self
-                .closing_brace(brace.saturating_add(1))
-                .saturating_add(1),
-            None => self.line_end(first),
+            Some(brace) => {
+                closing_brace(self.tokens, brace.saturating_add(1), false).saturating_add(1)
+            }
+            None => closing_brace(self.tokens, first, true),
         };
         end.max(first.saturating_add(1)).min(self.tokens.len())
     }

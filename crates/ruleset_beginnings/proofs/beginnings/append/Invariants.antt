@@ -1,5 +1,5 @@
 use Rattle.std.proofs.Common.{◌≡◌, ◌++◌, take}
-use Rattle.unread_parts.proofs.beginnings.append.Given as goal
+use Rattle.ruleset_beginnings.proofs.beginnings.append.Given as goal
 
 -- The tokens before this one are added.
 abbrev pub invariant-loop-token : goal.invariant-loop-token
