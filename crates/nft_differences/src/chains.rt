@@ -5,18 +5,13 @@ use nft_tree::{Chain, ChainKind, Head, Hook, Policy, Priority, PriorityName};
 use node_spans::TokenRange;
 use std::alloc::AllocError;
 
-/// The priorities at which Linux translates destinations and sources (linux/netfilter_ipv4.h).
-const DESTINATION_STEP: i128 = -100;
-
-const SOURCE_STEP: i128 = 100;
-
 /// The priority at which Linux looks up connections.
 const LOOKUP: i128 = -200;
 
 /// A base chain.
 #[derive(Clone, Copy)]
 pub(crate) struct BaseChain {
-    kind: ChainKind,
+    is_nat: bool,
     hook: Hook,
     priority: i128,
     /// The token of its priority.
@@ -24,10 +19,6 @@ pub(crate) struct BaseChain {
 }
 
 impl BaseChain {
-    fn is_nat(self) -> bool {
-        matches!(self.kind, ChainKind::Nat)
-    }
-
     fn shares_hook(self, other: BaseChain) -> bool {
         self.hook as u8 == other.hook as u8
     }
@@ -35,19 +26,19 @@ impl BaseChain {
     /// Whether both run in an order of their own on Linux.
     fn shares_place(self, other: BaseChain) -> bool {
         self.shares_hook(other)
-            && self.is_nat() == other.is_nat()
+            && self.is_nat == other.is_nat
             && self.priority == other.priority
             && !matches!(self.hook, Hook::Output)
     }
 
-    /// Whether it filters at just the priority at which addresses are translated.
+    /// Whether it filters at just the priority at which Linux translates destinations or sources
+    /// (linux/netfilter_ipv4.h).
     fn is_at_step(self) -> bool {
-        let step = match self.hook {
-            Hook::Prerouting => DESTINATION_STEP,
-            Hook::Postrouting => SOURCE_STEP,
-            Hook::Input | Hook::Forward | Hook::Output => return false,
-        };
-        !self.is_nat() && self.priority == step
+        match self.hook {
+            Hook::Prerouting => !self.is_nat && self.priority == -100,
+            Hook::Postrouting => !self.is_nat && self.priority == 100,
+            Hook::Input | Hook::Forward | Hook::Output => false,
+        }
     }
 }
 
@@ -60,13 +51,12 @@ pub(crate) fn is_early(head: &Head) -> bool {
 
 /// Whether the name of a priority isn't one of its hook.
 fn is_misplaced_name(head: &Head) -> bool {
-    match head.priority {
-        Priority::Named(PriorityName::DstNat) | Priority::Offset(PriorityName::DstNat, _, _) => {
-            !matches!(head.hook, Hook::Prerouting)
-        }
-        Priority::Named(PriorityName::SrcNat) | Priority::Offset(PriorityName::SrcNat, _, _) => {
-            !matches!(head.hook, Hook::Postrouting)
-        }
+    let (Priority::Named(name) | Priority::Offset(name, _, _)) = head.priority else {
+        return false;
+    };
+    match name {
+        PriorityName::DstNat => !matches!(head.hook, Hook::Prerouting),
+        PriorityName::SrcNat => !matches!(head.hook, Hook::Postrouting),
         _ => false,
     }
 }
@@ -80,7 +70,7 @@ impl Findings<'_> {
         range: TokenRange,
     ) -> Result<(), AllocError> {
         let base = BaseChain {
-            kind: head.kind,
+            is_nat: matches!(head.kind, ChainKind::Nat),
             hook: head.hook,
             priority: head.priority.number(),
             place: self.tokens.find(range, b"priority").unwrap_or(range.first),
@@ -110,7 +100,7 @@ impl Findings<'_> {
                 self.add(chain.place, warning::SAME_PRIORITY);
             }
             let mut all = self.chains.iter();
-            if chain.is_at_step() && all.any(|other| other.is_nat() && chain.shares_hook(*other)) {
+            if chain.is_at_step() && all.any(|other| other.is_nat && chain.shares_hook(*other)) {
                 self.add(chain.place, warning::NAT_PRIORITY);
             }
         }

@@ -20,14 +20,11 @@ impl Findings<'_> {
 
     fn judge_table(&mut self, table: &Table, range: TokenRange) -> Result<(), AllocError> {
         let places = items(self.alloc, self.tokens.all, range)?.unwrap_or(Vec::new(self.alloc));
-        let nodes = table.items.iter().zip(&places);
-        let comments = nodes.filter(|(item, _)| matches!(item, Item::Comment(_)));
-        for (_, place) in comments.skip(1) {
-            self.add(place.first, warning::SECOND_COMMENT);
-        }
+        let mut has_comment = false;
         for (item, place) in table.items.iter().zip(&places) {
             match item {
-                Item::Comment(_) => {}
+                Item::Comment(_) if has_comment => self.add(place.first, warning::SECOND_COMMENT),
+                Item::Comment(_) => has_comment = true,
                 Item::Chain(chain) => self.judge_chain(table, chain, *place)?,
                 Item::Set(set) => self.judge_set(set, *place)?,
                 Item::Map(map) => self.judge_map(map, *place)?,
@@ -43,11 +40,15 @@ impl Findings<'_> {
         chain: &Chain,
         range: TokenRange,
     ) -> Result<(), AllocError> {
-        self.judge_notes(chain, range);
         if let Some(head) = &chain.head {
             self.judge_head(chain, head, range)?;
         }
         let places = rules(self.alloc, self.tokens.all, range)?.unwrap_or(Vec::new(self.alloc));
+        let rules_start = match places.first() {
+            Some(rule) => rule.first,
+            None => range.end,
+        };
+        self.judge_notes(range, rules_start);
         for (rule, place) in chain.rules.iter().zip(&places) {
             Walk::new(self, table, chain, *place).judge(rule)?;
         }
@@ -57,18 +58,14 @@ impl Findings<'_> {
 
     /// Adds the warnings about comments of a chain that has one already. They stand before its
     /// rules.
-    fn judge_notes(&mut self, chain: &Chain, range: TokenRange) {
-        let tokens = self.tokens;
-        let behind = match &chain.head {
-            Some(head) => head.notes.len(),
-            None => 0,
-        };
-        let notes = tokens
-            .inside(range)
-            .filter(|index| tokens.is(*index, b"comment"))
-            .take(chain.notes.len().saturating_add(behind));
-        for note in notes.skip(1) {
-            self.add(note, warning::SECOND_COMMENT);
+    fn judge_notes(&mut self, chain: TokenRange, rules_start: usize) {
+        let mut has_comment = false;
+        for index in self.tokens.inside(chain).start..rules_start {
+            let is_comment = self.tokens.is(index, b"comment");
+            if is_comment && has_comment {
+                self.add(index, warning::SECOND_COMMENT);
+            }
+            has_comment = has_comment || is_comment;
         }
     }
 }

@@ -10,10 +10,11 @@ use std::alloc::{AllocError, Global};
 /// The most warnings that are written.
 const MOST: usize = 1000;
 
-/// A warning, and the offset at which it is.
+/// A warning, the offset at which it is, and its number among those found.
 #[derive(Clone, Copy)]
 struct Finding {
     offset: usize,
+    number: usize,
     warning: Warning,
 }
 
@@ -28,16 +29,7 @@ pub(crate) struct Findings<'a> {
     found: Vec<Finding>,
 }
 
-impl<'a> Findings<'a> {
-    fn new(alloc: Global, tokens: Tokens<'a>) -> Result<Findings<'a>, AllocError> {
-        Ok(Findings {
-            alloc,
-            tokens,
-            chains: Vec::new(alloc),
-            found: Vec::with_capacity(alloc, MOST)?,
-        })
-    }
-
+impl Findings<'_> {
     /// Adds a warning at a token.
     pub(crate) fn add(&mut self, index: usize, warning: Warning) {
         self.add_at(self.tokens.offset(index), warning);
@@ -45,8 +37,13 @@ impl<'a> Findings<'a> {
 
     /// Adds a warning at an offset.
     pub(crate) fn add_at(&mut self, offset: usize, warning: Warning) {
-        if self.found.len() < self.found.capacity() {
-            self.found.push_reserved(Finding { offset, warning });
+        let number = self.found.len();
+        if number < self.found.capacity() {
+            self.found.push_reserved(Finding {
+                offset,
+                number,
+                warning,
+            });
         }
     }
 
@@ -59,7 +56,8 @@ impl<'a> Findings<'a> {
 
     /// Writes one line for each warning, in the order of the text.
     fn write_to(&mut self, lines: &mut String, path: &str) -> Result<(), AllocError> {
-        self.found.sort_by_key(|finding| finding.offset)?;
+        self.found
+            .sort_unstable_by_key(|finding| (finding.offset, finding.number));
         let text = self.tokens.text;
         for finding in &self.found {
             if finding.offset <= text.len() {
@@ -83,7 +81,12 @@ pub fn warnings(alloc: Global, path: &str, text: &[u8]) -> Result<String, AllocE
     if let Some(all) = lexed(alloc, text)?
         && let Some(ruleset) = ruleset(alloc, &all)?
     {
-        let mut findings = Findings::new(alloc, Tokens { text, all: &all })?;
+        let mut findings = Findings {
+            alloc,
+            tokens: Tokens { text, all: &all },
+            chains: Vec::new(alloc),
+            found: Vec::with_capacity(alloc, MOST)?,
+        };
         findings.judge(&ruleset)?;
         findings.write_to(&mut lines, path)?;
     }

@@ -12,10 +12,9 @@ pub(crate) struct Interval {
 /// How elements cover numbers together.
 #[derive(Clone, Copy)]
 pub(crate) struct Coverage {
-    /// How many intervals there are, where equal ones count once.
+    /// How many intervals there are, where equal ones count once; and where they are merged, those
+    /// that overlap or touch.
     pub count: usize,
-    /// How many there are once those that overlap or touch are joined.
-    pub joined: usize,
     /// An element that overlaps another one without being equal to it.
     pub overlapping: Option<usize>,
 }
@@ -45,10 +44,7 @@ fn name_number(name: &[u8], filler: u8) -> u128 {
 /// What a name with a last `*` has before it.
 pub(crate) fn wildcard_stem(value: &Value) -> Option<&[u8]> {
     match value {
-        Value::String(text) => match text.as_slice() {
-            [stem @ .., b'*'] => Some(stem),
-            _ => None,
-        },
+        Value::String(text) => text.strip_suffix(b"*"),
         _ => None,
     }
 }
@@ -71,7 +67,7 @@ impl Interval {
             },
             ValueRange::Between(low, high) => (number_of(low, kind)?, number_of(high, kind)?),
             ValueRange::Prefix(address, length) => {
-                let hosts = hosts_of(*length);
+                let hosts = (u64::from(u32::MAX) >> (*length).min(32)) as u32;
                 (u128::from(*address & !hosts), u128::from(*address | hosts))
             }
         };
@@ -79,20 +75,11 @@ impl Interval {
     }
 }
 
-/// The bits behind a prefix of this length.
-fn hosts_of(length: u64) -> u32 {
-    match length {
-        0..=31 => u32::MAX >> length,
-        _ => 0,
-    }
-}
-
-/// How intervals cover numbers together.
-pub(crate) fn cover(intervals: &mut [Interval]) -> Coverage {
+/// How intervals cover numbers together; `is_merged` says whether nft merges them.
+pub(crate) fn cover(intervals: &mut [Interval], is_merged: bool) -> Coverage {
     intervals.sort_unstable_by_key(|interval| (interval.low, interval.high, interval.element));
     let mut covered = Coverage {
         count: intervals.len().min(1),
-        joined: intervals.len().min(1),
         overlapping: None,
     };
     let Some((first, others)) = intervals.split_first() else {
@@ -103,11 +90,11 @@ pub(crate) fn cover(intervals: &mut [Interval]) -> Coverage {
         if interval.low == before.low && interval.high == before.high {
             continue;
         }
-        covered.count = covered.count.saturating_add(1);
         if interval.low <= before.high {
             covered.overlapping = Some(interval.element.max(before.element));
-        } else if interval.low - before.high > 1 {
-            covered.joined = covered.joined.saturating_add(1);
+        }
+        if !is_merged || interval.low.saturating_sub(before.high) > 1 {
+            covered.count = covered.count.saturating_add(1);
         }
         before = Interval {
             high: interval.high.max(before.high),

@@ -38,8 +38,11 @@ impl Findings<'_> {
     fn judge_token(&mut self, index: usize) {
         let tokens = self.tokens;
         let next = index.saturating_add(1);
-        let there = tokens.bytes(next);
-        match tokens.kind(next) {
+        let Some(token) = tokens.all.get(next) else {
+            return;
+        };
+        let there = token.text;
+        match token.kind {
             TokenKind::String if tokens.is(index, b"comment") && there.len() > MOST_OF_COMMENT => {
                 self.add(next, warning::LONG_COMMENT);
             }
@@ -53,7 +56,9 @@ impl Findings<'_> {
             TokenKind::Number(_) if tokens.is(index, b":") && is_class(tokens, index) => {
                 self.add(index, warning::TIGHT_COLON);
             }
-            TokenKind::Word if is_decimal(tokens.bytes(index)) && begins_with_unit(there) => {
+            TokenKind::Word
+                if is_decimal(tokens.bytes(index))
+                    && matches!(there, [b'd' | b'h' | b'm' | b's', ..]) => {
                 self.add(index, warning::TIGHT_UNIT);
             }
             _ => {}
@@ -133,13 +138,6 @@ fn is_decimal(bytes: &[u8]) -> bool {
 
 /// Whether a token continues a word for nft.
 fn continues_word(token: &[u8]) -> bool {
-    match token {
-        [first, ..] => first.is_ascii_alphanumeric() || matches!(first, b'_' | b'-' | b'.' | b'/'),
-        [] => false,
-    }
-}
-
-/// Whether nft takes the first letter of a word behind a number for a unit of time.
-fn begins_with_unit(word: &[u8]) -> bool {
-    matches!(word, [b'd' | b'h' | b'm' | b's', ..])
+    let [first, ..] = token else { return false };
+    first.is_ascii_alphanumeric() || matches!(first, b'_' | b'-' | b'.' | b'/')
 }

@@ -1,15 +1,33 @@
 //! Matches that leave packets of TCP and UDP alone, whose ports `th` reads here. Linux reads the
 //! bytes of any protocol there.
 use crate::intervals::number_of;
-use crate::protocols::{TCP, UDP, header_of};
-use nft_expressions::Header;
+use crate::protocols::{TCP, UDP};
 use nft_tree::{
-    Element, Item, Key, Match, Operator, Selector, SetRef, Stmt, Table, Value, ValueRange,
+    BitField, Element, Item, Key, Match, Operator, Selector, SetRef, Stmt, Table, Value, ValueRange,
 };
+use std::slice;
+
+/// The selectors that a match reads.
+pub(crate) fn selectors_of(test: &Match) -> &[Selector] {
+    match test {
+        Match::Compare(selector, _, _) => slice::from_ref(selector),
+        Match::In(selectors, _) | Match::NotIn(selectors, _) => selectors,
+        Match::Bits(BitField::State, _, _) => &[Selector::CtState],
+        Match::Bits(BitField::Status, _, _) => &[Selector::CtStatus],
+        _ => &[Selector::TcpFlags],
+    }
+}
 
 /// Whether only packets of TCP and UDP have what a selector reads.
 pub(crate) fn is_of_ports(selector: Selector) -> bool {
-    matches!(header_of(selector), Header::Tcp | Header::Udp)
+    matches!(
+        selector,
+        Selector::TcpSource
+            | Selector::TcpDestination
+            | Selector::TcpFlags
+            | Selector::UdpSource
+            | Selector::UdpDestination
+    )
 }
 
 /// Whether the matches that stand first leave packets of TCP and UDP alone.
@@ -25,25 +43,15 @@ pub(crate) fn leave_ports(table: &Table, statements: &[Stmt]) -> bool {
 }
 
 fn leaves_ports(table: &Table, test: &Match) -> bool {
-    match test {
-        Match::Compare(selector, Operator::Equal, ValueRange::One(value)) => {
-            is_of_ports(*selector) || is_ported(*selector, value)
+    let mut selectors = selectors_of(test).iter();
+    selectors.any(|selector| is_of_ports(*selector))
+        || match test {
+            Match::Compare(selector, Operator::Equal, ValueRange::One(value)) => {
+                is_ported(*selector, value)
+            }
+            Match::In(selectors, set) => some_are_ported(table, selectors, set),
+            _ => false,
         }
-        Match::Compare(selector, _, _) => is_of_ports(*selector),
-        Match::In(selectors, set) => {
-            some_are_of_ports(selectors) || some_are_ported(table, selectors, set)
-        }
-        Match::NotIn(selectors, _) => some_are_of_ports(selectors),
-        Match::Bits(_, _, _) => false,
-        Match::AnyFlag(_)
-        | Match::ExactFlags(_)
-        | Match::MaskedFlags(_)
-        | Match::MaskedFlagsUnequal(_) => true,
-    }
-}
-
-fn some_are_of_ports(selectors: &[Selector]) -> bool {
-    selectors.iter().any(|selector| is_of_ports(*selector))
 }
 
 /// Whether one of joined selectors reads the protocol, which is TCP or UDP in each element.

@@ -1,7 +1,6 @@
 //! What nft(8) knows of a rule's packets from left to right: their family and transport protocol.
 use crate::intervals::number_of;
 use crate::warning::{self, Warning};
-use nft_expressions::Header;
 use nft_tree::{Family, Selector, Value};
 
 const ICMP: u128 = 1;
@@ -18,32 +17,6 @@ static KNOWN: [u128; 11] = [ICMP, 2, TCP, UDP, 33, 50, 51, 58, 108, 132, 136];
 const NFPROTO_IPV4: u128 = 2;
 
 const NFPROTO_IPV6: u128 = 10;
-
-/// What a selector begins with, so that it asks for a header or for none.
-pub(crate) fn header_of(selector: Selector) -> Header {
-    match selector {
-        Selector::IpSource
-        | Selector::IpDestination
-        | Selector::IpProtocol
-        | Selector::IpTtl
-        | Selector::IpLength => Header::Ip,
-        Selector::TcpSource | Selector::TcpDestination | Selector::TcpFlags => Header::Tcp,
-        Selector::UdpSource | Selector::UdpDestination => Header::Udp,
-        Selector::TransportSource | Selector::TransportDestination => Header::Transport,
-        Selector::IcmpType => Header::Icmp,
-        Selector::MetaProtocol
-        | Selector::MetaLength
-        | Selector::MetaMark
-        | Selector::MetaFamily
-        | Selector::InputName
-        | Selector::OutputName
-        | Selector::InputIndex
-        | Selector::OutputIndex => Header::Meta,
-        Selector::CtMark | Selector::CtState | Selector::CtDirection | Selector::CtStatus => {
-            Header::Ct
-        }
-    }
-}
 
 /// The family of a rule's packets.
 #[derive(Clone, Copy)]
@@ -74,7 +47,7 @@ pub(crate) struct Protocols {
 
 impl Protocols {
     pub(crate) fn new(family: Family) -> Protocols {
-        let is_inet = family == Family::Inet;
+        let is_inet = matches!(family, Family::Inet);
         Protocols {
             is_inet,
             network: if is_inet { Network::Any } else { Network::Ipv4 },
@@ -84,57 +57,52 @@ impl Protocols {
 
     /// Reads a selector, and returns what nft refuses of it.
     pub(crate) fn read(&mut self, selector: Selector) -> Option<Warning> {
-        match header_of(selector) {
-            Header::Ip => self.read_ip(),
-            Header::Tcp => self.read_transport(TCP),
-            Header::Udp => self.read_transport(UDP),
-            Header::Icmp => {
+        match selector {
+            Selector::IpSource
+            | Selector::IpDestination
+            | Selector::IpProtocol
+            | Selector::IpTtl
+            | Selector::IpLength => match self.network {
+                Network::Ipv6 | Network::Other => return Some(warning::FAMILY_CONFLICT),
+                Network::Any | Network::Ipv4 => self.network = Network::Ipv4,
+            },
+            Selector::TcpSource | Selector::TcpDestination | Selector::TcpFlags => {
+                return self.add_transport(TCP);
+            }
+            Selector::UdpSource | Selector::UdpDestination => return self.add_transport(UDP),
+            Selector::IcmpType => {
                 if matches!(self.network, Network::Any) && !self.has_transport() {
                     self.network = Network::Ipv4;
                 }
-                self.read_transport(ICMP)
+                return self.add_transport(ICMP);
             }
-            Header::Meta if matches!(selector, Selector::MetaFamily) && !self.is_inet => {
-                Some(warning::FAMILY_IN_IP_TABLE)
-            }
-            Header::Meta | Header::Transport | Header::Ct => None,
+            Selector::MetaFamily if !self.is_inet => return Some(warning::FAMILY_IN_IP_TABLE),
+            _ => {}
         }
+        None
     }
 
-    fn read_ip(&mut self) -> Option<Warning> {
-        match self.network {
-            Network::Any | Network::Ipv4 => {
-                self.network = Network::Ipv4;
-                None
-            }
-            Network::Ipv6 | Network::Other => Some(warning::FAMILY_CONFLICT),
-        }
-    }
-
-    fn read_transport(&mut self, protocol: u128) -> Option<Warning> {
-        self.add_transport(protocol);
+    /// Adds a transport protocol, and returns what nft refuses of a selector that asks for it.
+    fn add_transport(&mut self, protocol: u128) -> Option<Warning> {
         match self.transport {
-            Transport::Several => Some(warning::PROTOCOL_CONFLICT),
-            Transport::None | Transport::One(_) => None,
+            Transport::None => self.transport = Transport::One(protocol),
+            Transport::One(known) if known == protocol => {}
+            Transport::One(_) | Transport::Several => {
+                self.transport = Transport::Several;
+                return Some(warning::PROTOCOL_CONFLICT);
+            }
         }
+        None
     }
 
-    fn add_transport(&mut self, protocol: u128) {
-        self.transport = match self.transport {
-            Transport::None => Transport::One(protocol),
-            Transport::One(known) if known == protocol => Transport::One(protocol),
-            Transport::One(_) | Transport::Several => Transport::Several,
-        };
-    }
-
-    /// Learns what a match with a value says.
+    /// Learns what a match with a value says. Of a value nft refuses nothing.
     pub(crate) fn learn(&mut self, selector: Selector, value: &Value) {
         let Some(number) = number_of(value, selector.kind()) else {
             return;
         };
         match selector {
-            Selector::IpProtocol if KNOWN.contains(&number) => self.add_transport(number),
-            Selector::MetaProtocol => self.add_transport(number),
+            Selector::IpProtocol if !KNOWN.contains(&number) => {}
+            Selector::IpProtocol | Selector::MetaProtocol => _ = self.add_transport(number),
             Selector::MetaFamily if self.is_inet => {
                 self.network = match number {
                     NFPROTO_IPV4 => Network::Ipv4,
@@ -154,10 +122,9 @@ impl Protocols {
     /// What nft refuses of `snat` or `dnat`; `named` says whether `ip` is before its `to`.
     pub(crate) fn judge_nat(self, named: bool) -> Option<Warning> {
         match self.network {
-            Network::Ipv4 => None,
             Network::Ipv6 => Some(warning::NAT_OF_IPV6),
-            Network::Any | Network::Other if named => None,
-            Network::Any | Network::Other => Some(warning::NAT_WITHOUT_FAMILY),
+            Network::Any | Network::Other if !named => Some(warning::NAT_WITHOUT_FAMILY),
+            _ => None,
         }
     }
 }

@@ -1,18 +1,17 @@
 //! What nft(8) refuses of rules, or means otherwise by them.
 use crate::chains::is_early;
 use crate::findings::Findings;
-use crate::ports::{is_of_ports, leave_ports};
-use crate::protocols::{Protocols, header_of};
+use crate::ports::{is_of_ports, leave_ports, selectors_of};
+use crate::protocols::Protocols;
 use crate::tokens::Tokens;
 use crate::warning::{self, Warning};
-use nft_expressions::{Header, anysel};
+use nft_expressions::anysel;
 use nft_tree::{
     BitField, BitTest, Chain, DestinationTarget, Hook, Key, MapRef, Match, Nat, Operand, Operator,
     Rule, Selector, SetRef, SourceTarget, Stmt, Table, ValueRange,
 };
 use node_spans::{TokenRange, statements};
 use std::alloc::AllocError;
-use std::ops::Range;
 
 /// A rule that is read from left to right, beside its tokens.
 #[derive(Drop)]
@@ -41,12 +40,9 @@ impl<'f, 'a> Walk<'f, 'a> {
         chain: &Chain,
         range: TokenRange,
     ) -> Walk<'f, 'a> {
-        let (is_early, has_exit) = match &chain.head {
-            Some(head) => (
-                is_early(head),
-                !matches!(head.hook, Hook::Prerouting | Hook::Input),
-            ),
-            None => (false, true),
+        let (is_early, hook) = match &chain.head {
+            Some(head) => (is_early(head), Some(head.hook)),
+            None => (false, None),
         };
         Walk {
             tokens: findings.tokens,
@@ -57,7 +53,7 @@ impl<'f, 'a> Walk<'f, 'a> {
             protocols: Protocols::new(table.family),
             is_ported: false,
             is_early,
-            has_exit,
+            has_exit: !matches!(hook, Some(Hook::Prerouting | Hook::Input)),
         }
     }
 
@@ -111,12 +107,12 @@ impl<'f, 'a> Walk<'f, 'a> {
         if let Some(warning) = self.protocols.read(selector) {
             self.add(place, warning);
         }
-        if matches!(header_of(selector), Header::Transport) && !self.is_ported {
-            self.add(place, warning::PORTS_OF_ANY);
-        }
-        self.is_ported = self.is_ported || is_of_ports(selector);
-        if self.is_early && matches!(selector, Selector::CtState) {
-            self.add(place, warning::STATE_IN_EARLY_CHAIN);
+        match selector {
+            Selector::TransportSource | Selector::TransportDestination if !self.is_ported => {
+                self.add(place, warning::PORTS_OF_ANY);
+            }
+            Selector::CtState if self.is_early => self.add(place, warning::STATE_IN_EARLY_CHAIN),
+            _ => self.is_ported = self.is_ported || is_of_ports(selector),
         }
     }
 
@@ -125,69 +121,61 @@ impl<'f, 'a> Walk<'f, 'a> {
         if matches!(selector, Selector::CtStatus) {
             self.add(self.at, warning::WHOLE_STATUS);
         }
-        match map {
-            MapRef::Anonymous(pairs) => {
-                let kind = selector.kind();
-                self.findings.judge_anonymous(pairs, kind, true, self.range)
-            }
-            MapRef::Named(_) => Ok(()),
-        }
+        let MapRef::Anonymous(pairs) = map else {
+            return Ok(());
+        };
+        let kind = selector.kind();
+        self.findings.judge_anonymous(pairs, kind, true, self.range)
     }
 
     fn judge_match(&mut self, test: &Match) -> Result<(), AllocError> {
-        if !self.has_exit && excludes_exits(test) {
-            self.add(self.place_of_exit(), warning::NO_EXIT);
-        }
+        self.read_all(test);
         match test {
-            Match::Compare(selector, operator, range) => {
-                self.read(*selector);
-                self.judge_range(*selector, *operator, range);
+            Match::Compare(selector, operator, ValueRange::One(value)) => {
+                let place = self.range.end.saturating_sub(1);
+                let kind = selector.kind();
+                self.findings.judge_literal(value, kind, place, false);
+                if matches!(operator, Operator::Equal) {
+                    self.protocols.learn(*selector, value);
+                }
             }
             Match::In(selectors, set) => self.judge_set(selectors, set, true)?,
             Match::NotIn(selectors, set) => self.judge_set(selectors, set, false)?,
-            Match::Bits(field, bits, words) => self.judge_bits(*field, *bits, words.len()),
-            Match::AnyFlag(_) | Match::ExactFlags(_) => self.read(Selector::TcpFlags),
-            Match::MaskedFlags(_) | Match::MaskedFlagsUnequal(_) => {
-                self.read(Selector::TcpFlags);
-                self.judge_mask();
+            Match::Bits(BitField::State, BitTest::None, words) if words.len() > 1 => {
+                self.add(self.range.first, warning::STATE_NOT_SEVERAL);
             }
+            Match::Bits(BitField::Status, BitTest::None | BitTest::Exactly, _) => {
+                self.add(self.range.first, warning::WHOLE_STATUS);
+            }
+            Match::MaskedFlags(_) | Match::MaskedFlagsUnequal(_) => self.judge_mask(),
+            _ => {}
         }
         Ok(())
     }
 
-    /// The tokens of the statement that aren't read yet.
-    fn unread(&self) -> Range<usize> {
-        self.at..self.range.end
-    }
-
-    /// The next token that reads the output interface.
-    fn place_of_exit(&self) -> usize {
-        let tokens = self.tokens;
-        let place = self.unread().find(|index| matches!(tokens.bytes(*index), b"oif" | b"oifname"));
-        place.unwrap_or(self.at)
-    }
-
-    fn judge_range(&mut self, selector: Selector, operator: Operator, range: &ValueRange) {
-        if let ValueRange::One(value) = range {
-            let place = self.range.end.saturating_sub(1);
-            self.findings
-                .judge_literal(value, selector.kind(), place, false);
-            if matches!(operator, Operator::Equal) {
-                self.protocols.learn(selector, value);
+    /// Reads the selectors of a match. Of those that ask that the output interface be another one
+    /// than those named the first is told.
+    fn read_all(&mut self, test: &Match) {
+        let mut excludes = match test {
+            Match::Compare(_, Operator::Unequal, _) | Match::NotIn(_, _) => !self.has_exit,
+            _ => false,
+        };
+        for selector in selectors_of(test) {
+            self.read(*selector);
+            if excludes && matches!(selector, Selector::OutputName | Selector::OutputIndex) {
+                self.add(self.at.saturating_sub(1), warning::NO_EXIT);
+                excludes = false;
             }
         }
     }
 
-    /// Judges selectors that are in a set, or aren't.
+    /// Judges a selector that is in a set, or isn't; joined ones have no bits and no names.
     fn judge_set(
         &mut self,
         selectors: &[Selector],
         set: &SetRef,
         is_in: bool,
     ) -> Result<(), AllocError> {
-        for selector in selectors {
-            self.read(*selector);
-        }
         let [selector] = selectors else {
             return Ok(());
         };
@@ -196,7 +184,13 @@ impl<'f, 'a> Walk<'f, 'a> {
             SetRef::Named(_) => &[],
         };
         let has_operator = matches!(self.tokens.bytes(self.at), b"==" | b"!=");
-        self.judge_count(*selector, elements.len() == 1 && !has_operator);
+        match selector {
+            Selector::CtStatus | Selector::TcpFlags if elements.len() == 1 && !has_operator => {
+                self.add(self.range.first, warning::SINGLE_BIT);
+            }
+            Selector::CtStatus => self.add(self.range.first, warning::WHOLE_STATUS),
+            _ => {}
+        }
         for element in elements {
             if let Key::Single(ValueRange::One(value)) = &element.key
                 && is_in
@@ -209,49 +203,22 @@ impl<'f, 'a> Walk<'f, 'a> {
             .judge_anonymous(elements, kind, false, self.range)
     }
 
-    /// Judges a selector of bits in a set, by whether that has one element and no operator.
-    fn judge_count(&mut self, selector: Selector, is_single: bool) {
-        match selector {
-            Selector::CtStatus if !is_single => self.add(self.range.first, warning::WHOLE_STATUS),
-            Selector::CtStatus | Selector::TcpFlags if is_single => {
-                self.add(self.range.first, warning::SINGLE_BIT);
-            }
-            _ => {}
-        }
-    }
-
-    fn judge_bits(&mut self, field: BitField, test: BitTest, words: usize) {
-        match field {
-            BitField::State => {
-                self.read(Selector::CtState);
-                if matches!(test, BitTest::None) && words > 1 {
-                    self.add(self.range.first, warning::STATE_NOT_SEVERAL);
-                }
-            }
-            BitField::Status => {
-                self.read(Selector::CtStatus);
-                if matches!(test, BitTest::None | BitTest::Exactly) {
-                    self.add(self.range.first, warning::WHOLE_STATUS);
-                }
-            }
-        }
-    }
-
     /// Judges how a mask of TCP flags is written.
     fn judge_mask(&mut self) {
         let tokens = self.tokens;
         if tokens.is(self.at, b"&") {
-            self.judge_group();
-            return;
+            return self.judge_group();
         }
-        let Some(slash) = self.unread().find(|index| tokens.is(*index, b"/")) else {
+        let mut unread = self.at..self.range.end;
+        let Some(slash) = unread.find(|index| tokens.is(*index, b"/")) else {
             return;
         };
         let mask = tokens.bytes(slash.saturating_add(1));
         match tokens.bytes(slash.saturating_add(2)) {
             b"," => {}
             b"|" => self.add(slash, warning::MASK_OF_ONE),
-            _ if is_prefix_length(mask) => self.add(slash, warning::MASK_AS_PREFIX),
+            // The flags have 8 bits.
+            _ if matches!(mask, [b'0'..=b'8']) => self.add(slash, warning::MASK_AS_PREFIX),
             _ => self.add(slash, warning::MASK_OF_ONE),
         }
     }
@@ -260,19 +227,13 @@ impl<'f, 'a> Walk<'f, 'a> {
     fn judge_group(&mut self) {
         let mut is_open = false;
         let mut is_mask = true;
-        for index in self.unread() {
+        for index in self.at..self.range.end {
             match self.tokens.bytes(index) {
                 b"(" => is_open = true,
                 b")" => is_open = false,
                 b"==" | b"!=" => is_mask = false,
-                b"," if is_open || is_mask => {
-                    self.add(index, warning::COMMA_IN_MASK);
-                    return;
-                }
-                b"|" if is_mask && !is_open => {
-                    self.add(self.at, warning::OPEN_MASK);
-                    return;
-                }
+                b"," if is_open || is_mask => return self.add(index, warning::COMMA_IN_MASK),
+                b"|" if is_mask && !is_open => return self.add(self.at, warning::OPEN_MASK),
                 _ => {}
             }
         }
@@ -301,31 +262,12 @@ impl<'f, 'a> Walk<'f, 'a> {
     }
 }
 
-/// Whether a match asks that the output interface be another one than those named.
-fn excludes_exits(test: &Match) -> bool {
-    match test {
-        Match::Compare(selector, Operator::Unequal, _) => reads_exit(*selector),
-        Match::NotIn(selectors, _) => selectors.iter().any(|selector| reads_exit(*selector)),
-        _ => false,
-    }
-}
-
-fn reads_exit(selector: Selector) -> bool {
-    matches!(selector, Selector::OutputName | Selector::OutputIndex)
-}
-
-/// Whether nft takes a number behind `/` for the length of a prefix: the flags have 8 bits.
-fn is_prefix_length(mask: &[u8]) -> bool {
-    matches!(mask, [b'0'..=b'8'])
-}
-
 fn has_ports(nat: &Nat) -> bool {
-    match nat {
-        Nat::Source(SourceTarget::Address(_, ports)) | Nat::Masquerade(ports) => ports.is_some(),
-        Nat::Destination(DestinationTarget::Address(_, port)) | Nat::Redirect(port) => {
-            port.is_some()
-        }
-        Nat::Source(SourceTarget::MapLookup(_))
-        | Nat::Destination(DestinationTarget::MapLookup(_)) => false,
-    }
+    matches!(
+        nat,
+        Nat::Source(SourceTarget::Address(_, Some(_)))
+            | Nat::Destination(DestinationTarget::Address(_, Some(_)))
+            | Nat::Masquerade(Some(_))
+            | Nat::Redirect(Some(_))
+    )
 }

@@ -57,25 +57,19 @@ impl Listed for Pair {
 
 /// What a declaration says of its elements.
 #[derive(Clone, Copy)]
-struct Declared {
+struct Declared<'a> {
     kind: ComparedType,
-    /// How many there may be; none where nft doesn't look.
     size: Option<u64>,
-    is_interval: bool,
+    flags: &'a Option<Vec<SetFlag>>,
     /// Whether elements that overlap or touch are joined.
     is_merged: bool,
 }
 
-fn has_flag(flags: &Option<Vec<SetFlag>>, wanted: SetFlag) -> bool {
-    match flags {
-        Some(flags) => flags.iter().any(|flag| *flag as u8 == wanted as u8),
-        None => false,
+impl Declared<'_> {
+    fn has_flag(self, wanted: SetFlag) -> bool {
+        let flags = self.flags.as_deref().unwrap_or(&[]);
+        flags.iter().any(|flag| *flag as u8 == wanted as u8)
     }
-}
-
-/// The size of a set or a map that may be filled up.
-fn limit(size: Option<u64>, flags: &Option<Vec<SetFlag>>) -> Option<u64> {
-    size.filter(|size| *size != 0 && !has_flag(flags, SetFlag::Constant))
 }
 
 /// How elements cover numbers; none where that isn't known. Concatenations never overlap.
@@ -83,13 +77,13 @@ fn coverage<E: Listed>(
     alloc: Global,
     elements: &[E],
     kind: ComparedType,
+    is_merged: bool,
 ) -> Result<Option<Coverage>, AllocError> {
     let mut intervals = Vec::with_capacity(alloc, elements.len())?;
     for (number, element) in elements.iter().enumerate() {
         let Some(range) = element.range() else {
             return Ok(Some(Coverage {
                 count: elements.len(),
-                joined: elements.len(),
                 overlapping: None,
             }));
         };
@@ -98,7 +92,7 @@ fn coverage<E: Listed>(
         };
         intervals.push(interval)?;
     }
-    Ok(Some(cover(&mut intervals)))
+    Ok(Some(cover(&mut intervals, is_merged)))
 }
 
 impl Findings<'_> {
@@ -106,11 +100,11 @@ impl Findings<'_> {
     pub(crate) fn judge_set(&mut self, set: &SetDecl, range: TokenRange) -> Result<(), AllocError> {
         let declared = Declared {
             kind: set.key.kind(0).unwrap_or(ComparedType::Unnamed(0)),
-            size: limit(set.size, &set.flags),
-            is_interval: has_flag(&set.flags, SetFlag::Interval),
+            size: set.size,
+            flags: &set.flags,
             is_merged: set.auto_merge,
         };
-        if set.auto_merge && !declared.is_interval {
+        if set.auto_merge && !declared.has_flag(SetFlag::Interval) {
             self.add_at_word(range, b"auto-merge", warning::AUTO_MERGE_WITHOUT_INTERVAL);
         }
         self.judge_declared(declared, &set.elements, range)
@@ -120,8 +114,8 @@ impl Findings<'_> {
     pub(crate) fn judge_map(&mut self, map: &MapDecl, range: TokenRange) -> Result<(), AllocError> {
         let declared = Declared {
             kind: map.types.key(),
-            size: limit(map.size, &map.flags),
-            is_interval: has_flag(&map.flags, SetFlag::Interval),
+            size: map.size,
+            flags: &map.flags,
             is_merged: false,
         };
         if map.auto_merge {
@@ -133,7 +127,7 @@ impl Findings<'_> {
     /// Adds what nft refuses of a set or a map, and of its elements.
     fn judge_declared<E: Listed>(
         &mut self,
-        declared: Declared,
+        declared: Declared<'_>,
         list: &Option<Vec<E>>,
         range: TokenRange,
     ) -> Result<(), AllocError> {
@@ -142,23 +136,23 @@ impl Findings<'_> {
             return Ok(());
         };
         let places = elements(self.alloc, self.tokens.all, range)?.unwrap_or(Vec::new(self.alloc));
-        if !declared.is_interval {
+        let is_interval = declared.has_flag(SetFlag::Interval);
+        if !is_interval {
             let first = list.iter().position(|element| element.is_interval());
             self.add_at_element(&places, first, warning::NO_INTERVAL);
         }
         self.judge_literals(list, &places, declared.kind);
-        let Some(covered) = coverage(self.alloc, list, declared.kind)? else {
+        let Some(covered) = coverage(self.alloc, list, declared.kind, declared.is_merged)? else {
             return Ok(());
         };
-        if declared.is_interval && !declared.is_merged {
+        if is_interval && !declared.is_merged {
             self.add_at_element(&places, covered.overlapping, warning::OVERLAP);
         }
-        let count = if declared.is_merged {
-            covered.joined
-        } else {
-            covered.count
-        };
-        if declared.size.is_some_and(|size| size < count as u64) {
+        // One that is constant isn't filled up, and 0 is no limit.
+        if let Some(size) = declared.size
+            && (1..covered.count as u64).contains(&size)
+            && !declared.has_flag(SetFlag::Constant)
+        {
             self.add_at_word(range, b"size", warning::TOO_MANY_ELEMENTS);
         }
         Ok(())
@@ -166,7 +160,9 @@ impl Findings<'_> {
 
     /// Adds a warning at the element of this number, if there is one.
     fn add_at_element(&mut self, places: &[TokenRange], element: Option<usize>, warning: Warning) {
-        if let Some(place) = element.and_then(|number| places.get(number)) {
+        if let Some(number) = element
+            && let Some(place) = places.get(number)
+        {
             self.add(place.first, warning);
         }
     }
@@ -191,7 +187,9 @@ impl Findings<'_> {
         if !is_interface(kind) {
             return;
         }
-        if wildcard_stem(value).is_some_and(|stem| stem.len() > MOST_OF_STEM) {
+        if let Some(stem) = wildcard_stem(value)
+            && stem.len() > MOST_OF_STEM
+        {
             self.add(place, warning::LONG_WILDCARD);
         }
         if let Value::Word(word) = value
@@ -215,7 +213,7 @@ impl Findings<'_> {
         let places = anonymous_elements(self.alloc, self.tokens.all, statement)?;
         let places = places.unwrap_or(Vec::new(self.alloc));
         self.judge_literals(list, &places, kind);
-        if is_map && let Some(covered) = coverage(self.alloc, list, kind)? {
+        if is_map && let Some(covered) = coverage(self.alloc, list, kind, false)? {
             self.add_at_element(&places, covered.overlapping, warning::OVERLAP);
         }
         Ok(())

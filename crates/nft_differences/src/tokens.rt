@@ -1,5 +1,5 @@
 //! The tokens of a ruleset's text, newlines among them.
-use nft_lexer::{LexError, Token, TokenKind, lex};
+use nft_lexer::{LexError, Token, lex};
 use node_spans::TokenRange;
 use std::alloc::{AllocError, Global};
 use std::ops::Range;
@@ -24,14 +24,6 @@ pub(crate) fn lexed<'a>(
 }
 
 impl<'a> Tokens<'a> {
-    /// The kind of a token; that of a newline at the end.
-    pub(crate) fn kind(self, index: usize) -> TokenKind {
-        match self.all.get(index) {
-            Some(token) => token.kind,
-            None => TokenKind::NewLine,
-        }
-    }
-
     /// The bytes of a token; none at the end.
     pub(crate) fn bytes(self, index: usize) -> &'a [u8] {
         match self.all.get(index) {

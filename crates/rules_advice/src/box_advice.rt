@@ -25,7 +25,11 @@ pub fn put_advice_on_box(
 fn box_advice<'a>(fault: BoxFault, line: &'a str, names: &'a [&'a str]) -> Advice<'a> {
     match fault {
         BoxFault::Form => form_advice(line.split_whitespace().next().unwrap_or("")),
-        BoxFault::UnknownName => name_advice(line, names),
+        BoxFault::UnknownName => known_names("Interfaces of the box", names).unless_near(
+            line.split_whitespace().last().unwrap_or(""),
+            Gap::Words(names),
+            DID_YOU_MEAN_ONE_OF,
+        ),
         BoxFault::Repeated => fixed(
             "A line before it has its index, name, address, prefix or kind: give it another one, or leave it out.",
         ),
@@ -47,26 +51,10 @@ fn form_advice<'a>(first: &'a str) -> Advice<'a> {
         "idle" => {
             "Write it as `idle udp 120`: udp, established, transitory, ask or other, and seconds."
         }
-        _ => return unknown_line(first),
+        _ => {
+            let words = Gap::Listed("interface route default idle");
+            let known = fixed("A line begins with `interface`, `route`, `default` or `idle`.");
+            return known.unless_near(first, words, DID_YOU_MEAN_ONE_OF);
+        }
     })
-}
-
-/// What to do about a line that begins with a word that no line begins with.
-fn unknown_line<'a>(first: &'a str) -> Advice<'a> {
-    fixed("A line begins with `interface`, `route`, `default` or `idle`.").unless_near(
-        first,
-        Gap::Listed("interface route default idle"),
-        DID_YOU_MEAN_ONE_OF,
-    )
-}
-
-/// The interface that may be meant by a line's last word, if it has two.
-fn name_advice<'a>(line: &'a str, names: &'a [&'a str]) -> Advice<'a> {
-    let mut fields = line.split_whitespace();
-    let _kind = fields.next();
-    known_names("Interfaces of the box", names).unless_near(
-        fields.last().unwrap_or(""),
-        Gap::Words(names),
-        DID_YOU_MEAN_ONE_OF,
-    )
 }

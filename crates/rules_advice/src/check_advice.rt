@@ -1,13 +1,12 @@
 //! What to do about a fault of a ruleset as a whole.
 use crate::around::Around;
-use crate::name_advice::{
-    chain_advice, duplicate_advice, interface_advice, names_wanted, set_advice,
-};
+use crate::name_advice::{duplicate_advice, name_advice, names_wanted};
 use crate::type_advice::type_advice;
 use crate::types::Types;
-use crate::unread_words::put_unread;
-use crate::value_advice::value_advice;
-use advice::{Advice, Gap, begins_match, fixed, greatest_is, lists, with_text, with_texts};
+use crate::value_advice::{put_unread, value_advice};
+use advice::{
+    Advice, Gap, VERDICTS, begins_match, fixed, greatest_is, lists, with_text, with_texts,
+};
 use rule_check::CheckFault;
 use std::alloc::{AllocError, Global};
 
@@ -53,92 +52,63 @@ fn check_advice<'a>(
     names: &'a [&'a str],
     types: &'a Types,
 ) -> Option<Advice<'a>> {
-    match fault {
-        CheckFault::DuplicateName => duplicate_advice(around),
-        CheckFault::NoSuchChain => Some(chain_advice(around, names)),
-        CheckFault::NoSuchSet => Some(set_advice(around, names)),
-        CheckFault::TypeMismatch => type_advice(around, types),
-        CheckFault::WrongValue => value_advice(around, types),
-        CheckFault::NoSuchInterface => Some(interface_advice(around, names)),
-        CheckFault::BaseChainCalled => Some(with_text(
+    let sentence = match fault {
+        CheckFault::DuplicateName => return duplicate_advice(around),
+        CheckFault::NoSuchChain | CheckFault::NoSuchSet | CheckFault::NoSuchInterface => {
+            return Some(name_advice(around, fault, names));
+        }
+        CheckFault::TypeMismatch => return type_advice(around, types),
+        CheckFault::WrongValue => return value_advice(around, types),
+        CheckFault::MisplacedNat => return nat_advice(around.here()),
+        CheckFault::StatementAfterVerdict => return Some(behind_end(around)),
+        CheckFault::TooLarge if lists("packets bytes", around.before(1)) => {
+            let most = 4_611_686_018_427_387_904;
+            return Some(greatest_is(Gap::Text("start of a counter"), most));
+        }
+        CheckFault::BaseChainCalled =>
             "Put the rules of `{}` into a chain without a `type` line, and jump to that from both.",
-            around.here(),
-        )),
-        CheckFault::MisplacedNat => nat(around),
-        CheckFault::StatementAfterVerdict => Some(behind_verdict(around)),
-        CheckFault::TooLarge => Some(too_large(around)),
-        _ => Some(fixed(sentence_of(fault))),
-    }
-}
-
-/// What to do about a fault that has one sentence.
-fn sentence_of(fault: CheckFault) -> &'static str {
-    match fault {
         CheckFault::Cycle => "`return` goes back to the caller: write it in place of a jump back.",
         CheckFault::TooDeep =>
             "`goto` adds no depth: write it where nothing follows in the caller.",
         CheckFault::TooCostly => "Call a chain once, or look the verdict up in a map by `vmap`.",
         CheckFault::MisplacedNatChain =>
             "Chains of type nat stand at prerouting (priority `dstnat`), output (-100) and postrouting (`srcnat`), with a priority above -200.",
-        _ => "It shares a number with an element before it: leave one out, or give both the same.",
-    }
+        CheckFault::TooLarge => "A ruleset has at most 16,384 rules and 65,536 elements.",
+        CheckFault::Contradiction =>
+            "It shares a number with an element before it: leave one out, or give both the same.",
+    };
+    Some(with_text(sentence, around.here()))
 }
 
 /// The chain in which a NAT statement has its place.
-fn nat<'a>(around: &Around<'a>) -> Option<Advice<'a>> {
-    let mut words = (0..around.words.len()).map(|number| around.words.get(number));
-    let statement = words.find(|word| lists("snat masquerade dnat redirect", word))?;
+fn nat_advice<'a>(statement: &'a str) -> Option<Advice<'a>> {
     let head = match statement {
         "snat" | "masquerade" => "type nat hook postrouting priority srcnat;",
-        _ => "type nat hook prerouting priority dstnat;",
+        "dnat" | "redirect" => "type nat hook prerouting priority dstnat;",
+        _ => return None,
     };
     Some(with_texts("`{}` goes into a chain with `{}`.", statement, head))
 }
 
-/// What to do about what stands behind the first statement that ends its rule.
-fn behind_verdict<'a>(around: &Around<'a>) -> Advice<'a> {
-    for number in 0..around.words.len() {
-        let word = around.words.get(number);
-        let places = match word {
-            "jump" | "goto" => 2,
-            "accept" | "drop" | "return" | "continue" => 1,
-            "vmap" | "snat" | "dnat" | "masquerade" | "redirect" => {
-                return fixed("A `vmap` or a NAT statement ends its rule: write it last.");
-            }
-            _ => continue,
-        };
-        return surplus_advice(around, word, number.saturating_add(places));
-    }
-    fixed("Write what ends the rule last.")
-}
-
-/// What to do about a word of this number behind the word that ends the rule.
-fn surplus_advice<'a>(around: &Around<'a>, end: &'a str, number: usize) -> Advice<'a> {
-    let word = around.words.get(number);
-    let moved = moved_before(around, word);
-    if !moved.is_empty() {
-        return with_texts("Write `{}` before `{}`, which ends the rule.", moved, end);
-    }
-    let instead = if begins_match(word) {
-        "begin another one behind it, on a new line"
-    } else {
-        "take out what stands behind it"
+/// What to do about the statement at the place, which stands behind the one that ends its rule.
+fn behind_end<'a>(around: &Around<'a>) -> Advice<'a> {
+    let behind = around.here();
+    let end = match (around.before(2), around.before(1)) {
+        ("jump" | "goto", _) => around.before(2),
+        (_, verdict) if lists(VERDICTS, verdict) => verdict,
+        _ => return fixed("A `vmap` or a NAT statement ends its rule: write it last."),
     };
-    with_texts("`{}` ends the rule: {}.", end, instead)
-}
-
-/// The statement that a word begins, where it can stand before the end of its rule; else empty.
-fn moved_before<'a>(around: &Around<'a>, word: &'a str) -> &'a str {
-    match word {
-        "counter" | "log" | "notrack" => word,
+    // What can stand before the end of the rule.
+    let moved = match behind {
+        "counter" | "log" | "notrack" => behind,
         "meta" | "ct" if around.words.has("set") => "mark set",
         _ => "",
-    }
-}
-
-fn too_large<'a>(around: &Around<'a>) -> Advice<'a> {
-    if lists("packets bytes", around.before(1)) {
-        return greatest_is(Gap::Text("start of a counter"), 4_611_686_018_427_387_904);
-    }
-    fixed("A ruleset has at most 16,384 rules and 65,536 elements.")
+    };
+    let sentence = match moved {
+        "" if begins_match(behind) =>
+            "`{}` ends the rule: begin another one behind it, on a new line.",
+        "" => "`{}` ends the rule: take out what stands behind it.",
+        _ => return with_texts("Write `{}` before `{}`, which ends the rule.", moved, end),
+    };
+    with_text(sentence, end)
 }

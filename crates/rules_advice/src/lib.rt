@@ -10,7 +10,6 @@ mod name_advice;
 mod names;
 mod type_advice;
 mod types;
-mod unread_words;
 mod value_advice;
 
 pub use box_advice::put_advice_on_box;

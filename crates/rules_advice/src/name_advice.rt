@@ -1,6 +1,6 @@
 //! What to do about a name that stands twice, or isn't declared.
 use crate::around::Around;
-use crate::names::{Declared, Kind, interfaces};
+use crate::names::{Kind, interfaces};
 use advice::{
     Advice, DID_YOU_MEAN, DID_YOU_MEAN_ONE_OF, Gap, NO_GAP, filled, fixed, lists, with_text,
     with_texts, with_words,
@@ -9,89 +9,52 @@ use fault_places::position_at;
 use rule_check::CheckFault;
 use std::alloc::{AllocError, Global};
 
-/// The most names that are listed.
-const MOST_NAMES: usize = 12;
-
-/// The names of which one could stand at the place of a fault, if it is one of a name that isn't
-/// declared.
+/// The names that could stand at the place of a fault of a name that isn't declared.
 pub fn names_wanted<'a>(
     alloc: Global,
     around: &Around<'a>,
     plant: &'a [u8],
     fault: CheckFault,
 ) -> Result<Vec<&'a str>, AllocError> {
-    if matches!(fault, CheckFault::NoSuchInterface) {
-        return interfaces(alloc, plant);
+    let kind = match fault {
+        CheckFault::NoSuchInterface => return interfaces(alloc, plant),
+        CheckFault::NoSuchChain => Kind::Chain,
+        _ => Kind::Set,
+    };
+    let mut names = Vec::new(alloc);
+    for item in &around.declared {
+        let is_other = !item.is_base && !item.is_alike(around.inside);
+        if is_other && item.is_beside(kind, around.inside) {
+            names.push(item.name)?;
+        }
     }
-    around
-        .declared
-        .iter()
-        .copied()
-        .filter(|item| around.is_beside(*item) && is_wanted(around, *item, fault))
-        .map(|item| item.name)
-        .collect(alloc)
-}
-
-/// Whether the name of a chain, a set or a map could stand at the place of a fault.
-fn is_wanted(around: &Around<'_>, item: Declared<'_>, fault: CheckFault) -> bool {
-    match (fault, item.kind, around.inside) {
-        (CheckFault::NoSuchChain, Kind::Chain, Some(own)) => item.name != own.name,
-        (CheckFault::NoSuchChain, Kind::Chain, None) => true,
-        (CheckFault::NoSuchSet, Kind::Set | Kind::Map, _) => true,
-        _ => false,
-    }
+    Ok(names)
 }
 
 /// The line that has the same name before.
 pub fn duplicate_advice<'a>(around: &Around<'a>) -> Option<Advice<'a>> {
-    let start = first_of_name(around, around.inside.or(around.table)?)?;
-    if start > around.text.len() {
-        return None;
+    for item in &around.declared {
+        let start = item.part.start;
+        if item.is_alike(around.inside) && start <= around.text.len() {
+            let line = Gap::Number(position_at(around.text, start).line as u64);
+            let sentence = "Line {} has that name: give this one a name of its own.";
+            return Some(with_words(sentence, line));
+        }
     }
-    let line = Gap::Number(position_at(around.text, start).line as u64);
-    Some(with_words(
-        "Line {} has that name: give this one a name of its own.",
-        line,
-    ))
+    None
 }
 
-/// Where the declaration begins that has the same name before one.
-fn first_of_name(around: &Around<'_>, second: Declared<'_>) -> Option<usize> {
-    let first = around.declared.iter().copied().find(|item| {
-        let is_near = matches!(item.kind, Kind::Table) || around.is_beside(*item);
-        is_near && item.is_alike(second) && item.part.start < second.part.start
-    })?;
-    Some(first.part.start)
-}
-
-/// The chain of these that may be meant.
-pub fn chain_advice<'a>(around: &Around<'a>, names: &'a [&'a str]) -> Advice<'a> {
-    no_chain(around, names).unless_near(around.here(), Gap::Words(names), DID_YOU_MEAN)
-}
-
-/// What to do about the name of a chain that isn't one of these.
-fn no_chain<'a>(around: &Around<'a>, names: &'a [&'a str]) -> Advice<'a> {
-    let here = around.here();
-    let is_elsewhere = around.declared.iter().any(|item| {
-        matches!(item.kind, Kind::Chain | Kind::BaseChain) && item.name == here
-    });
-    if is_elsewhere {
-        return with_text(
-            "`{}` is a chain of another table: copy it into this one.",
-            here,
-        );
+/// The one of these names that may be meant by one that isn't declared.
+pub fn name_advice<'a>(around: &Around<'a>, fault: CheckFault, names: &'a [&'a str]) -> Advice<'a> {
+    let (here, words) = (around.here(), Gap::Words(names));
+    if matches!(fault, CheckFault::NoSuchChain) {
+        return no_chain(around, names).unless_near(here, words, DID_YOU_MEAN);
     }
-    if names.is_empty() {
-        return fixed(
-            "The table has no chain that can be called: write it, as `chain web { accept }`.",
-        );
+    if matches!(fault, CheckFault::NoSuchSet) {
+        return no_set(names).unless_near(here, words, "Did you mean `@{}`?");
     }
-    known_names("Chains that can be called here", names)
-}
-
-/// The one of these sets and maps that may be meant.
-pub fn set_advice<'a>(around: &Around<'a>, names: &'a [&'a str]) -> Advice<'a> {
-    no_set(names).unless_near(around.here(), Gap::Words(names), "Did you mean `@{}`?")
+    let name = here.split('"').nth(1).unwrap_or(here);
+    no_interface(around, name, names).unless_near(name, words, DID_YOU_MEAN_ONE_OF)
 }
 
 /// What to do about the name of a set or a map that isn't one of these.
@@ -102,49 +65,56 @@ fn no_set<'a>(names: &'a [&'a str]) -> Advice<'a> {
     known_names("Sets and maps of this table", names)
 }
 
-/// The one of these interfaces that may be meant.
-pub fn interface_advice<'a>(around: &Around<'a>, names: &'a [&'a str]) -> Advice<'a> {
-    let name = unquoted(around.here());
-    let unknown = match selector_before(around) {
-        Some(selector) if around.before(1) == selector => with_texts(
+/// What to do about the name of a chain that isn't one of these.
+fn no_chain<'a>(around: &Around<'a>, names: &'a [&'a str]) -> Advice<'a> {
+    let here = around.here();
+    for item in &around.declared {
+        if item.kind == Kind::Chain && item.name == here {
+            let sentence = "`{}` is a chain of another table: copy it into this one.";
+            return with_text(sentence, here);
+        }
+    }
+    if names.is_empty() {
+        return fixed(
+            "The table has no chain that can be called: write it, as `chain web { accept }`.",
+        );
+    }
+    known_names("Chains that can be called here", names)
+}
+
+/// What to do about the name of an interface that isn't one of these.
+fn no_interface<'a>(around: &Around<'a>, name: &'a str, names: &'a [&'a str]) -> Advice<'a> {
+    // The one by the index of an interface, where a name stands behind it.
+    let mut selector = "";
+    for number in 0..around.at {
+        let word = around.words.get(number);
+        if lists("iif oif", word) && around.here().parse::<u64>().is_err() {
+            selector = word;
+        }
+    }
+    if selector.is_empty() {
+        return known_names("Interfaces of the box", names);
+    }
+    if around.before(1) == selector {
+        return with_texts(
             "Write `{}name \"{}\"`: it compares names, and asks for no interface on the box.",
             selector,
             name,
-        ),
-        Some(selector) => filled(
-            "Interfaces of the box: {}. `{}name` in place of `{}` compares names, and asks for none of them.",
-            [
-                known(names),
-                Gap::Text(selector),
-                Gap::Text(selector),
-                NO_GAP,
-            ],
-        ),
-        None => known_names("Interfaces of the box", names),
-    };
-    unknown.unless_near(name, Gap::Words(names), DID_YOU_MEAN_ONE_OF)
-}
-
-/// The selector of interfaces by their index before the name of one.
-fn selector_before<'a>(around: &Around<'a>) -> Option<&'a str> {
-    if around.here().parse::<u64>().is_ok() {
-        return None;
+        );
     }
-    let mut before = (1..around.at.saturating_add(1)).map(|places| around.before(places));
-    before.find(|word| lists("iif oif", word))
+    let selector = Gap::Text(selector);
+    filled(
+        "Interfaces of the box: {}. `{}name` in place of `{}` compares names, and asks for none of them.",
+        [known(names), selector, selector, NO_GAP],
+    )
 }
 
-/// The names of a kind, up to some number.
+/// The first names of a kind.
 pub fn known_names<'a>(kind: &'a str, names: &'a [&'a str]) -> Advice<'a> {
     filled("{}: {}.", [Gap::Text(kind), known(names), NO_GAP, NO_GAP])
 }
 
+/// The first ones of some names.
 fn known<'a>(names: &'a [&'a str]) -> Gap<'a> {
-    Gap::Words(names.get(..MOST_NAMES).unwrap_or(names))
-}
-
-/// A word without the quotes around it.
-pub fn unquoted(word: &str) -> &str {
-    let rest = word.strip_prefix("\"").unwrap_or("");
-    rest.strip_suffix("\"").unwrap_or(word)
+    Gap::Words(names.get(..12).unwrap_or(names))
 }

@@ -1,92 +1,75 @@
 //! The names that a ruleset and a box file declare.
-use fault_places::{Level, Span, Words, box_lines, holds, shown, spans};
+use fault_places::{Level, Span, Words, box_lines, holds, part_around, shown, spans};
 use std::alloc::{AllocError, Global};
 
-/// What something is that has a name in a ruleset.
-#[derive(Clone, Copy)]
+/// What something is that has a name in a ruleset, as far as names may not stand twice.
+#[derive(Clone, Copy, PartialEq, Eq)]
 pub enum Kind {
     Table,
     Chain,
-    /// A chain at a hook.
-    BaseChain,
+    /// A set or a map.
     Set,
-    Map,
 }
 
 /// A table, or what is declared in one.
 #[derive(Clone, Copy)]
 pub struct Declared<'a> {
     pub kind: Kind,
+    /// Whether it is a chain at a hook.
+    pub is_base: bool,
+    pub is_map: bool,
     /// Of a table.
     family: &'a str,
     pub name: &'a str,
     pub part: Span,
+    /// The table that it is in; that of a table is the table itself.
+    table: Span,
 }
 
 impl<'a> Declared<'a> {
-    /// What a part with these words declares.
-    fn new(words: &Words<'a>, part: Span) -> Declared<'a> {
-        let kind = match (words.get(0), words.get(3)) {
-            ("chain", "type") => Kind::BaseChain,
-            ("chain", _) => Kind::Chain,
-            ("set", _) => Kind::Set,
-            ("map", _) => Kind::Map,
-            _ => Kind::Table,
-        };
-        let (family, name) = match (kind, words.get(2)) {
-            (Kind::Table, "{") => ("ip", words.get(1)),
-            (Kind::Table, name) => (words.get(1), name),
-            _ => ("", words.get(1)),
+    /// What a part with these words declares, in one of these tables.
+    pub fn new(words: &Words<'a>, part: Span, tables: &[Span]) -> Declared<'a> {
+        let (kind, family, name) = match (words.get(0), words.get(1), words.get(2)) {
+            ("chain", name, _) => (Kind::Chain, "", name),
+            ("set" | "map", name, _) => (Kind::Set, "", name),
+            (_, name, "{") => (Kind::Table, "ip", name),
+            (_, family, name) => (Kind::Table, family, name),
         };
         Declared {
             kind,
+            is_base: kind == Kind::Chain && words.get(3) == "type",
+            is_map: words.get(0) == "map",
             family,
             name,
             part,
+            table: part_around(tables, part.start).unwrap_or(part),
         }
     }
 
-    /// Whether it can't stand beside another one, by its name; a set and a map share their names.
+    /// Whether it is of a kind, in the same table as another one.
+    pub fn is_beside(self, kind: Kind, other: Declared<'_>) -> bool {
+        self.kind == kind && holds(self.table, other.part.start)
+    }
+
+    /// Whether it can't stand beside another one, by its name.
     pub fn is_alike(self, other: Declared<'_>) -> bool {
-        let is_one_kind = match (self.kind, other.kind) {
-            (Kind::Table, Kind::Table) => self.family == other.family,
-            (Kind::Chain | Kind::BaseChain, Kind::Chain | Kind::BaseChain) => true,
-            (Kind::Set | Kind::Map, Kind::Set | Kind::Map) => true,
-            _ => false,
-        };
-        is_one_kind && self.name == other.name
+        let is_near = self.kind == Kind::Table || self.is_beside(self.kind, other);
+        let is_named = self.family == other.family && self.name == other.name;
+        is_near && is_named && self.kind == other.kind
     }
 }
 
 /// The tables of a ruleset, and then what they declare, in the order of the text.
 pub fn declared_in<'a>(alloc: Global, text: &'a [u8]) -> Result<Vec<Declared<'a>>, AllocError> {
     let mut found = Vec::new(alloc);
-    add_declared(alloc, text, Level::Tables, &mut found)?;
-    add_declared(alloc, text, Level::Declarations, &mut found)?;
-    Ok(found)
-}
-
-fn add_declared<'a>(
-    alloc: Global,
-    text: &'a [u8],
-    level: Level,
-    found: &mut Vec<Declared<'a>>,
-) -> Result<(), AllocError> {
-    for part in &spans(alloc, text, level)? {
-        found.push(Declared::new(&Words::of(alloc, text, *part)?, *part))?;
+    let tables = spans(alloc, text, Level::Tables)?;
+    let mut parts = tables.to_vec(alloc)?;
+    parts.extend_from_slice(&spans(alloc, text, Level::Declarations)?)?;
+    for part in &parts {
+        let words = Words::of(alloc, text, *part)?;
+        found.push(Declared::new(&words, *part, &tables))?;
     }
-    Ok(())
-}
-
-/// The table around an offset, or else what is declared in one around it.
-pub fn declared_around<'a>(
-    declared: &[Declared<'a>],
-    offset: usize,
-    is_table: bool,
-) -> Option<Declared<'a>> {
-    declared.iter().copied().find(|item| {
-        matches!(item.kind, Kind::Table) == is_table && holds(item.part, offset)
-    })
+    Ok(found)
 }
 
 /// The names of a box's interfaces.

@@ -1,34 +1,29 @@
-//! What to do about a value that isn't of its type.
+//! What to do about a value, or several of a list, that isn't of its type.
 use crate::around::Around;
-use crate::name_advice::unquoted;
-use crate::types::{Types, greatest, values_of};
+use crate::types::{ADDRESS, MARK, SERVICE, Types, greatest, values_of};
 use advice::{
-    Advice, DID_YOU_MEAN_ONE_OF, Gap, NO_GAP, filled, fixed, greatest_is, has_constant, lists,
-    no_value, one_of, otherwise, with_texts, write_this,
+    Advice, DID_YOU_MEAN_ONE_OF, Gap, Kind, NO_GAP, filled, fixed, greatest_is, has_constant,
+    lists, nearest, no_value, one_of, otherwise, with_texts, write_this,
 };
 use fault_places::Words;
 use nft_tree::{ComparedType, ValueType};
+use std::alloc::{AllocError, Global};
 use std::net::Ipv4Addr;
-
-const ADDRESS: ComparedType = ComparedType::Named(ValueType::Address);
-
-pub const SERVICE: ComparedType = ComparedType::Named(ValueType::Service);
-
-/// The greatest length of a prefix.
-const MOST_LENGTH: u64 = 32;
 
 /// What to do about a value that isn't of its type, if it is known.
 pub fn value_advice<'a>(around: &Around<'a>, types: &Types) -> Option<Advice<'a>> {
-    if let Some(sentence) = uncompared(around) {
-        return Some(fixed(sentence));
-    }
-    let before = around.before(1);
-    let mark = [ComparedType::Named(ValueType::Mark)];
-    match (around.set(), types.data) {
-        (Some(_), Some(data)) if before == ":" => values_advice(around, &[data]),
-        (Some(_), _) => values_advice(around, &types.keys),
-        (None, _) if before == "set" => values_advice(around, &mark),
-        (None, _) => values_advice(around, &types.compared),
+    match (around.set(), types.data, around.before(1)) {
+        (_, _, "prefix") => Some(fixed("A log's prefix has at most 127 bytes.")),
+        (_, _, ":" | "-") if around.words.has_before(around.at, "to") => {
+            Some(fixed("Ports are 1 to 65535, the lower one first."))
+        }
+        (Some(_), _, _) if around.words.get(0) == "chain" => Some(fixed(
+            "A priority is a number from -2147483648 to 2147483647.",
+        )),
+        (Some(_), Some(data), ":") => values_advice(around, &[data]),
+        (Some(_), _, _) => values_advice(around, &types.keys),
+        (None, _, "set") => values_advice(around, &[MARK]),
+        (None, _, _) => values_advice(around, &types.compared),
     }
 }
 
@@ -62,20 +57,6 @@ fn part_advice<'a>(words: &Words<'a>, of: ComparedType, first: usize) -> Option<
     word_advice(of, if is_last_wrong { last } else { start })
 }
 
-/// What to do about numbers and strings that aren't compared.
-fn uncompared(around: &Around<'_>) -> Option<&'static str> {
-    if around.before(1) == "prefix" {
-        return Some("A log's prefix has at most 127 bytes.");
-    }
-    if !around.is_in_rule && around.words.get(0) == "chain" {
-        return Some("A priority is a number from -2147483648 to 2147483647.");
-    }
-    if around.words.has_before(around.at, "to") && [":", "-"].contains(&around.before(1)) {
-        return Some("Ports are 1 to 65535, the lower one first.");
-    }
-    None
-}
-
 /// Whether the first of two numbers or addresses is greater.
 fn is_reversed(first: &str, last: &str) -> bool {
     match (first.parse::<u64>(), last.parse::<u64>()) {
@@ -86,21 +67,22 @@ fn is_reversed(first: &str, last: &str) -> bool {
 
 /// How many parts of its element stand before the place.
 fn parts_before(around: &Around<'_>) -> usize {
-    let before = (1..around.at).map(|places| around.before(places));
-    let element = before.take_while(|word| !lists(", {", word));
-    element.filter(|word| *word == ".").count()
+    let mut parts = 0usize;
+    for number in 0..around.at {
+        match around.words.get(number) {
+            "," | "{" => parts = 0,
+            "." => parts = parts.saturating_add(1),
+            _ => {}
+        }
+    }
+    parts
 }
 
 /// What to do about a prefix of this length.
 fn prefix_advice<'a>(of: ComparedType, length: &str) -> Option<Advice<'a>> {
-    if of != ADDRESS {
-        return Some(fixed("Only addresses have prefixes: write a range."));
-    }
     match length.parse::<u64>() {
-        Ok(length) if length > MOST_LENGTH => Some(greatest_is(
-            Gap::Text("length of a prefix"),
-            MOST_LENGTH,
-        )),
+        _ if of != ADDRESS => Some(fixed("Only addresses have prefixes: write a range.")),
+        Ok(33..) => Some(greatest_is(Gap::Text("length of a prefix"), 32)),
         _ => None,
     }
 }
@@ -112,41 +94,9 @@ fn word_advice<'a>(of: ComparedType, word: &'a str) -> Option<Advice<'a>> {
     }
     match word.as_bytes() {
         [b'0'..=b'9', ..] if of != ADDRESS => Some(compared_elsewhere(of, ADDRESS)),
-        [b'"', ..] => Some(string_advice(of)),
+        [b'"', ..] if !is_interface(of) => Some(fixed("Write it without quotes.")),
         _ => named_advice(of, word),
     }
-}
-
-/// What to do about a value of another type than the one that is compared.
-fn compared_elsewhere<'a>(of: ComparedType, other: ComparedType) -> Advice<'a> {
-    let (wanted, elsewhere) = (values_of(of).are, values_of(other).selectors);
-    filled(
-        "This is no {}: write {}, or compare {}.",
-        [
-            Gap::Type(of),
-            Gap::Text(wanted),
-            Gap::Text(elsewhere),
-            NO_GAP,
-        ],
-    )
-}
-
-fn number_advice<'a>(of: ComparedType, number: u64) -> Option<Advice<'a>> {
-    match greatest(of) {
-        Some(most) if number > most => Some(greatest_is(Gap::Type(of), most)),
-        Some(_) => None,
-        None if of == ADDRESS => Some(compared_elsewhere(of, SERVICE)),
-        None => Some(no_value(of, values_of(of).are)),
-    }
-}
-
-fn string_advice<'a>(of: ComparedType) -> Advice<'a> {
-    fixed(match of {
-        ComparedType::Named(ValueType::InterfaceName | ValueType::InterfaceIndex) => {
-            "An interface's name has 1 to 15 bytes and no backslash."
-        }
-        _ => "Write it without quotes.",
-    })
 }
 
 /// What to do about a word, where it isn't one that its type lists.
@@ -156,34 +106,126 @@ fn named_advice<'a>(of: ComparedType, word: &'a str) -> Option<Advice<'a>> {
     }
     Some(match instead_of(of, word) {
         Some(other) => write_this(other),
-        None => unknown_advice(of).unless_near(
-            unquoted(word),
-            Gap::Constants(of),
-            DID_YOU_MEAN_ONE_OF,
-        ),
+        None => unknown_advice(of).unless_near(word, Gap::Constants(of), DID_YOU_MEAN_ONE_OF),
     })
+}
+
+/// What to do about a value of another type than the one that is compared.
+fn compared_elsewhere<'a>(of: ComparedType, other: ComparedType) -> Advice<'a> {
+    let wanted = Gap::Text(values_of(of).0);
+    let elsewhere = Gap::Text(values_of(other).1);
+    filled(
+        "This is no {}: write {}, or compare {}.",
+        [Gap::Type(of), wanted, elsewhere, NO_GAP],
+    )
+}
+
+fn number_advice<'a>(of: ComparedType, number: u64) -> Option<Advice<'a>> {
+    match greatest(of) {
+        Some(most) if number > most => Some(greatest_is(Gap::Type(of), most)),
+        Some(_) => None,
+        None if of == ADDRESS => Some(compared_elsewhere(of, SERVICE)),
+        None => Some(no_value(of, values_of(of).0)),
+    }
 }
 
 /// What to do about a word that is like none of those that its type lists.
 fn unknown_advice<'a>(of: ComparedType) -> Advice<'a> {
     match of {
-        ComparedType::Named(ValueType::InterfaceName | ValueType::InterfaceIndex) => {
-            string_advice(of)
-        }
-        ComparedType::Named(ValueType::Service) => no_value(of, "the port's number"),
+        _ if is_interface(of) => fixed("An interface's name has 1 to 15 bytes and no backslash."),
+        _ if of == SERVICE => no_value(of, "the port's number"),
         ComparedType::Named(named) if !named.words().is_empty() => one_of(Gap::Constants(of)),
-        _ => no_value(of, values_of(of).are),
+        _ => no_value(of, values_of(of).0),
     }
 }
 
-/// What stands here for a word that others write: a word of the type, or a port's number.
-pub fn instead_of(of: ComparedType, word: &str) -> Option<&'static str> {
-    let mut rows = otherwise().iter().copied();
-    rows.find(|row| lists(row.1, word) && is_known(of, row.0))
-        .map(|row| row.0)
+fn is_interface(of: ComparedType) -> bool {
+    matches!(
+        of,
+        ComparedType::Named(ValueType::InterfaceName | ValueType::InterfaceIndex)
+    )
 }
 
-/// Whether a word is one of those of its type, or a port's number.
-fn is_known(of: ComparedType, word: &str) -> bool {
-    has_constant(of, word) || (of == SERVICE && word.parse::<u16>().is_ok())
+/// What stands here for a word that others write: a word of the type, or a port's number.
+fn instead_of(of: ComparedType, word: &str) -> Option<&'static str> {
+    for (own, others) in otherwise() {
+        let is_known = has_constant(of, *own) || of == SERVICE && own.parse::<u16>().is_ok();
+        if is_known && lists(*others, word) {
+            return Some(*own);
+        }
+    }
+    None
+}
+
+/// Writes which words of the list around a place its type doesn't have, if there are several; whether
+/// there are.
+pub fn put_unread(
+    alloc: Global,
+    around: &Around<'_>,
+    types: &Types,
+    lines: &mut String,
+) -> Result<bool, AllocError> {
+    let compared = match around.set() {
+        Some(_) => types.keys.as_slice(),
+        None => types.compared.as_slice(),
+    };
+    let [of] = compared else {
+        return Ok(false);
+    };
+    let unread = unread_words(alloc, around, *of)?;
+    if unread.len() < 2 {
+        return Ok(false);
+    }
+    let mut mark = "Not read: ";
+    for (word, instead) in &unread {
+        match *instead {
+            "" if *of == SERVICE => write!(lines, "{mark}`{word}` (write its number)")?,
+            "" => write!(lines, "{mark}`{word}`")?,
+            _ => write!(lines, "{mark}`{word}` (write `{instead}`)")?,
+        }
+        mark = ", ";
+    }
+    lines.push_str(".\n")?;
+    Ok(true)
+}
+
+/// The words of the list around a place that a type doesn't list, each with what may be meant, empty
+/// where that isn't known; those first that are near one of the type. None of a map.
+fn unread_words<'a>(
+    alloc: Global,
+    around: &Around<'a>,
+    of: ComparedType,
+) -> Result<Vec<(&'a str, &'static str)>, AllocError> {
+    let (mut unread, mut others) = (Vec::new(alloc), Vec::new(alloc));
+    let known = Kind::Constants(of).words(alloc)?;
+    if known.is_empty() {
+        return Ok(unread);
+    }
+    for number in first_of_list(around)..around.words.len() {
+        match around.words.get(number) {
+            "}" | ":" => break,
+            word if is_word(word) && !known.contains(&word) => match nearest(alloc, word, &known)? {
+                Some(near) => unread.push((word, near))?,
+                None => others.push((word, instead_of(of, word).unwrap_or("")))?,
+            },
+            _ => {}
+        }
+    }
+    unread.extend_from_slice(&others)?;
+    Ok(unread)
+}
+
+/// The number of the first word of the list around a place; that of no word where there is none.
+fn first_of_list(around: &Around<'_>) -> usize {
+    let mut first = around.words.len();
+    for number in 0..around.at {
+        if around.words.get(number) == "{" {
+            first = number.saturating_add(1);
+        }
+    }
+    first
+}
+
+fn is_word(word: &str) -> bool {
+    matches!(word.as_bytes(), [b'a'..=b'z' | b'A'..=b'Z', ..])
 }

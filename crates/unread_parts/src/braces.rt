@@ -5,7 +5,10 @@ use token_reader::{after_end, is_rule_end};
 
 /// Whether a token has this text, which is none of a string.
 pub(crate) fn is(tokens: &[Token<'_>], at: usize, text: &[u8]) -> bool {
-    tokens.get(at).is_some_and(|token| token.text == text)
+    match tokens.get(at) {
+        Some(token) => token.text == text,
+        None => false,
+    }
 }
 
 /// How many braces are open behind a token, with so many before it; none for one that closes no brace.

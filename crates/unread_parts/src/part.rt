@@ -74,7 +74,10 @@ pub(crate) fn end_of<P: Production>(
     tokens: &[Token<'_>],
     at: usize,
 ) -> Result<Option<usize>, AllocError> {
-    Ok(P::read(alloc, tokens, at)?.map(|read| read.1))
+    match P::read(alloc, tokens, at)? {
+        Some((_part, end)) => Ok(Some(end)),
+        None => Ok(None),
+    }
 }
 
 impl Part {
