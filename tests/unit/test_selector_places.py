@@ -108,7 +108,7 @@ class OfAdvice(PlacesCase):
 
     def test_what_begins_no_match(self) -> None:
         unread = found(r'^const UNREAD_MATCHES: &str =\s*"([^"]*)"', ADVICE).split()
-        arms = re.findall(r'^        ("[^=]*?)=>', found(r"^fn in_rule\((.*?)^\}", ADVICE), re.M)
+        arms = re.findall(r'^        \(true, ("[^=)]*)\) =>', found(r"^fn there\((.*?)^\}", ADVICE), re.M)
         self.assertLess(5, len(arms))
         unread += re.findall(r'"([\w-]+)"', "".join(arms))
         self.want(f"{ADVICE}, what isn't read in a rule", set(unread) - BEGIN_MATCHES, unread)
