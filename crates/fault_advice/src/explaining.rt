@@ -5,12 +5,11 @@ use crate::token_advice::token_advice;
 use crate::word_advice::put_syntax_advice;
 use box_file::BoxFault;
 use fault_location::{
-    Fault, Sources, SyntaxPlace, check_place, faulty_line, lexical_place, syntax_place,
+    CheckPlace, Fault, Sources, SyntaxPlace, check_place, faulty_line, lexical_place, syntax_place,
 };
-use fault_places::{Outline, show};
+use fault_places::{heads_around, show, tokens_of};
 use nft_lexer::{LexError, LexFault, lex};
 use nft_parser::TextFault;
-use rule_check::CheckFault;
 use rules_advice::{put_advice_on_box, put_advice_on_rules};
 use std::alloc::{AllocError, Global};
 
@@ -43,7 +42,7 @@ impl<'a> Explaining<'a> {
         match fault {
             Fault::Text(TextFault::Lexical(fault)) => self.put_place_of_token(fault, lines),
             Fault::Text(fault) => self.put_place_in_text(fault, lines),
-            Fault::Check(fault) => self.put_place_in_rules(fault, lines),
+            Fault::Check(_) => self.put_place_in_rules(lines),
             Fault::Box(fault) => self.put_place_in_box(fault, lines),
             Fault::Capture(_) => Ok(()),
         }
@@ -94,17 +93,17 @@ impl<'a> Explaining<'a> {
     }
 
     /// Writes where a fault of a ruleset as a whole is, what is around it, and what to do.
-    fn put_place_in_rules(self, fault: CheckFault, lines: &mut String) -> Result<(), AllocError> {
+    fn put_place_in_rules(self, lines: &mut String) -> Result<(), AllocError> {
         let (alloc, text, plant) = (self.alloc, self.sources.rules, self.sources.plant);
-        let Some(word) = check_place(alloc, text, plant)? else {
+        let Some(CheckPlace { found, word }) = check_place(alloc, text, plant)? else {
             return Ok(());
         };
         self.show(word.start, lines)?;
-        let around = Outline::of(alloc, text)?.description(alloc, word.start)?;
+        let around = heads_around(alloc, &tokens_of(alloc, text)?, word.start)?;
         if !around.is_empty() {
             writeln!(lines, "{}", around.as_str())?;
         }
-        put_advice_on_rules(alloc, text, plant, fault, word.start, lines)
+        put_advice_on_rules(alloc, text, plant, found, word.start, lines)
     }
 
     /// Writes where a fault of a box file is, and what to do.

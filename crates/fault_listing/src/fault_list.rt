@@ -5,7 +5,7 @@ use fault_location::{
     Fault, Sources, SyntaxPlace, box_fault, faulty_line, lexical_place, place_in, read_box,
     shown_word, syntax_place,
 };
-use fault_places::{Outline, Span, bytes_of, holds, mask, position_at, span_of, tokens_of};
+use fault_places::{Span, bytes_of, heads_around, holds, mask, position_at, span_of, tokens_of};
 use fault_spans::node_range;
 use nft_lexer::{LexError, Punctuator, Token, TokenKind, lex};
 use nft_parser::TextFault;
@@ -282,9 +282,9 @@ impl<'a> FaultList<'a> {
     /// them, and a last line where there may be more.
     fn write_to(&mut self, lines: &mut String, parts: &[u8]) -> Result<(), AllocError> {
         self.found.sort_by_key(|found| found.offset)?;
-        let outline = Outline::of(self.alloc, parts)?;
+        let tokens = tokens_of(self.alloc, parts)?;
         for found in &self.found {
-            let around = outline.description(self.alloc, found.offset)?;
+            let around = heads_around(self.alloc, &tokens, found.offset)?;
             self.write_fault(lines, *found, around.as_str())?;
         }
         let path = self.path;

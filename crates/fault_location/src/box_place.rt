@@ -1,11 +1,20 @@
 //! Locates a fault of a box file: the line with which the file gets it.
 use crate::faults::box_fault;
 use box_file::BoxFault;
-use fault_places::{Level, Span, box_lines, mask};
+use fault_places::{Span, mask};
 use std::alloc::{AllocError, Global};
 
-/// The levels of lines, in the order in which they are taken out.
-static LEVELS: [Level; 3] = [Level::Rules, Level::Declarations, Level::Tables];
+/// What a line of a box file says.
+#[derive(Clone, Copy, PartialEq)]
+enum LineKind {
+    Interface,
+    Default,
+    Other,
+}
+
+/// The order in which lines are taken out: the others name interfaces, and without a `default` line
+/// a file is no box.
+static KINDS: [LineKind; 3] = [LineKind::Other, LineKind::Interface, LineKind::Default];
 
 /// The last of the first lines that are enough for the fault, with all `interface` lines and the
 /// `default` line, or else of `interface` lines, or the `default` line.
@@ -18,14 +27,38 @@ pub fn faulty_line(
     fault: BoxFault,
 ) -> Result<Option<Span>, AllocError> {
     let mut left = text.to_vec(alloc)?;
-    for level in &LEVELS {
-        let lines = box_lines(alloc, text, *level)?;
+    for kind in &KINDS {
+        let lines = lines_of(alloc, text, *kind)?;
         if let Some(line) = completing_line(alloc, &left, &lines, fault)? {
             return Ok(Some(line));
         }
         mask(&mut left, &lines);
     }
     Ok(None)
+}
+
+/// The lines of a kind, in text order.
+fn lines_of(alloc: Global, text: &[u8], kind: LineKind) -> Result<Vec<Span>, AllocError> {
+    let mut lines = Vec::new(alloc);
+    let mut start = 0usize;
+    for line in text.split(|byte| *byte == b'\n') {
+        let end = start.saturating_add(line.len());
+        if kind_of(line) == kind {
+            lines.push(Span { start, end })?;
+        }
+        start = end.saturating_add(1);
+    }
+    Ok(lines)
+}
+
+fn kind_of(line: &[u8]) -> LineKind {
+    if line.starts_with(b"interface") {
+        LineKind::Interface
+    } else if line.starts_with(b"default") {
+        LineKind::Default
+    } else {
+        LineKind::Other
+    }
 }
 
 /// The line of these with which a text gets the fault; none where it has it without them.

@@ -2,8 +2,8 @@
 use crate::faults::read_box;
 use box_file::Plant;
 use fault_nodes::{Node, declarations, ruleset_between, ruleset_parts};
-use fault_places::{Span, span_of, tokens_in, tokens_of};
-use fault_spans::fault_span;
+use fault_places::{Span, span_of, tokens_of};
+use fault_spans::{FaultSpan, fault_span, node_range};
 use nft_lexer::{Punctuator, Token, TokenKind};
 use nft_rulesets::ruleset;
 use nft_tree::{
@@ -13,24 +13,38 @@ use nft_tree::{
 use rule_check::{CheckFault, least_fault};
 use std::alloc::{AllocError, Global};
 
-/// The word at which the fault of a ruleset is shown; none where it has none.
+/// A fault of a ruleset, and the word at which it is shown.
+#[derive(Clone, Copy)]
+pub struct CheckPlace {
+    pub found: FaultSpan,
+    pub word: Span,
+}
+
+/// Where the fault of a ruleset stands; none where it has none.
 ///
 /// # Errors
 /// `AllocError` for want of memory.
-pub fn check_place(alloc: Global, text: &[u8], plant: &[u8]) -> Result<Option<Span>, AllocError> {
-    let tree = ruleset(alloc, &tokens_of(alloc, text)?)?;
-    let (Some(tree), Some(plant)) = (tree, read_box(alloc, plant)?) else {
+pub fn check_place(
+    alloc: Global,
+    text: &[u8],
+    plant: &[u8],
+) -> Result<Option<CheckPlace>, AllocError> {
+    let tokens = tokens_of(alloc, text)?;
+    let (Some(tree), Some(plant)) = (ruleset(alloc, &tokens)?, read_box(alloc, plant)?) else {
         return Ok(None);
     };
     let likely = likely_position(alloc, &tree, &plant)?;
     let Some(found) = fault_span(alloc, text, &plant, likely)? else {
         return Ok(None);
     };
+    let Some(range) = node_range(alloc, &tokens, found.node)? else {
+        return Ok(None);
+    };
     let part = found.position.saturating_sub(declarations(&tree));
     let is_of_data = is_of_data(alloc, &tree, &plant, part, found.fault)?;
-    let (start, end) = (found.start, found.end);
-    let tokens = tokens_in(alloc, text, Span { start, end })?;
-    Ok(Some(shown_word(found.node, found.fault, is_of_data, &tokens)))
+    let own = tokens.get(range.first..range.end).unwrap_or(&[]);
+    let word = shown_word(found.node, found.fault, is_of_data, own);
+    Ok(Some(CheckPlace { found, word }))
 }
 
 /// How much of a ruleset is likely read before the node with which it gets its fault: by halves, of

@@ -1,18 +1,16 @@
-//! Parts and positions in the text of a ruleset or a box file, for diagnostics.
+//! Words and positions in the text of a ruleset or a box file, and what is around them, for
+//! diagnostics.
 //!
-//! Only bounds are proved: the parts and positions lie within the text. Which ones they are is a
-//! heuristic by braces and line ends, without the grammar.
+//! Of positions it is proved that they lie within the text. What is around them is found by braces
+//! and ends of lines, without the grammar.
 #![tactic(auto)]
 
-mod brace_parts;
-mod enclosing;
+mod heads;
 mod part;
 mod position;
+mod words;
 
-pub use brace_parts::{Level, Span, box_lines, spans};
-pub use enclosing::Outline;
-pub use part::{
-    Words, bytes_of, holds, mask, part_around, rest_from, shown, span_of, tokens_in, tokens_of,
-    up_to,
-};
+pub use heads::heads_around;
+pub use part::{Span, bytes_of, holds, mask, rest_from, shown, span_of, tokens_of};
 pub use position::{Position, position_at, show};
+pub use words::Words;

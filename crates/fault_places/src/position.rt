@@ -1,6 +1,7 @@
 //! Lines and columns, and how they are shown.
 ghost use Rattle.std.specs.Prelude.{◌≡◌, ◌≤◌, ◌+◌, length};
 
+use crate::part::{Span, bytes_of};
 use std::alloc::{AllocError, Global};
 
 /// How many bytes of a line are shown on either side of a location.
@@ -57,11 +58,9 @@ pub fn show(
     writeln!(lines, "{path}:{}:{}", at.line, at.column)?;
     let start = at.start.max(offset.saturating_sub(MAX_SHOWN_BYTES));
     let end = at.end.min(offset.saturating_add(MAX_SHOWN_BYTES));
-    let (Some(line), Some(before)) = (text.get(start..end), text.get(start..offset)) else {
-        return Ok(());
-    };
-    if let Ok(shown) = str::from_utf8(line) {
-        writeln!(lines, "{shown}\n{}", caret(alloc, before)?.as_str())?;
+    let before = bytes_of(text, Span { start, end: offset });
+    if let Ok(line) = str::from_utf8(bytes_of(text, Span { start, end })) {
+        writeln!(lines, "{line}\n{}", caret(alloc, before)?.as_str())?;
     }
     Ok(())
 }

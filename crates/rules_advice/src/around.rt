@@ -1,20 +1,28 @@
 //! What is around a fault of a ruleset.
-use crate::names::{Declared, Kind, declared_in};
-use fault_places::{Level, Words, bytes_of, holds, part_around, rest_from, spans, up_to};
+use crate::names::{Kind, declares, item_named};
+use fault_nodes::Node;
+use fault_places::Words;
+use fault_spans::node_range;
+use nft_lexer::Token;
+use nft_tree::{Item, Ruleset, Table};
 use std::alloc::{AllocError, Global};
 
-/// A fault at an offset of a ruleset, and what is around it.
+/// A text, its tokens, and the ruleset that they spell.
+#[derive(Clone, Copy)]
+pub struct Source<'a> {
+    pub text: &'a [u8],
+    pub tokens: &'a [Token<'a>],
+    pub tree: &'a Ruleset,
+}
+
+/// A fault at a word of a ruleset, and what is around it.
 #[derive(Drop)]
 pub struct Around<'a> {
-    pub text: &'a [u8],
-    /// What the ruleset declares.
-    pub declared: Vec<Declared<'a>>,
-    /// The innermost of that around it.
-    pub inside: Declared<'a>,
-    /// Whether it is in a rule.
+    pub tree: &'a Ruleset,
+    pub table: &'a Table,
+    /// The chain, the set or the map, if it is in one.
+    pub item: Option<&'a Item>,
     pub is_in_rule: bool,
-    /// The bytes of the rule around it, or else of the declaration, up to it.
-    pub start: &'a [u8],
     /// The words of the rule or the declaration.
     pub words: Words<'a>,
     /// The number of the word at it.
@@ -22,29 +30,39 @@ pub struct Around<'a> {
 }
 
 impl<'a> Around<'a> {
-    /// What is around an offset.
-    pub fn new(alloc: Global, text: &'a [u8], offset: usize) -> Result<Around<'a>, AllocError> {
-        let declared = declared_in(alloc, text)?;
-        let whole = rest_from(text, 0);
-        let mut inside = Declared::new(&Words::of(alloc, text, whole)?, whole, &[]);
-        for item in &declared {
-            if holds(item.part, offset) {
-                inside = *item;
-            }
-        }
-        let rule = part_around(&spans(alloc, text, Level::Rules)?, offset);
-        let part = rule.unwrap_or(inside.part);
-        let words = Words::of(alloc, text, part)?;
-        let at = words.count_before(offset);
-        Ok(Around {
-            text,
-            declared,
-            inside,
-            is_in_rule: rule.is_some(),
-            start: bytes_of(text, up_to(part, offset)),
+    /// What is around an offset in a node; `None` where there is no such node.
+    pub fn new(
+        alloc: Global,
+        source: Source<'a>,
+        node: Node,
+        offset: usize,
+    ) -> Result<Option<Around<'a>>, AllocError> {
+        let Source { tokens, tree, .. } = source;
+        let (outer, table, item) = outer(node);
+        let Some(table) = tree.tables.get(table) else {
+            return Ok(None);
+        };
+        let Some(range) = node_range(alloc, tokens, outer)? else {
+            return Ok(None);
+        };
+        let part = tokens.get(range.first..range.end);
+        let words = Words::among(alloc, part.unwrap_or(&[]))?;
+        Ok(Some(Around {
+            tree,
+            table,
+            item: table.items.get(item.unwrap_or(usize::MAX)),
+            is_in_rule: matches!(outer, Node::Rule { .. }),
+            at: words.count_before(offset),
             words,
-            at,
-        })
+        }))
+    }
+
+    /// Whether it is in the declaration of this.
+    pub fn is_in(&self, kind: Kind, name: &str) -> bool {
+        match self.item {
+            Some(item) => declares(item, kind, name),
+            None => false,
+        }
     }
 
     /// The word at the place.
@@ -59,15 +77,33 @@ impl<'a> Around<'a> {
 
     /// The set or map that a rule names at the place, or else the declaration that it is in outside
     /// of rules.
-    pub fn set(&self) -> Option<Declared<'a>> {
-        if self.before(1) != "@" {
-            return (!self.is_in_rule).then_some(self.inside);
+    pub fn set(&self) -> Option<&'a Item> {
+        if self.before(1) == "@" {
+            return item_named(self.table, Kind::Set, self.here());
         }
-        for item in &self.declared {
-            if item.is_beside(Kind::Set, self.inside) && item.name == self.here() {
-                return Some(*item);
-            }
+        if self.is_in_rule { None } else { self.item }
+    }
+}
+
+/// The rule around a node, or else the declaration, with the numbers of its table and of its item.
+fn outer(node: Node) -> (Node, usize, Option<usize>) {
+    match node {
+        Node::Table { table } => (node, table, None),
+        Node::Item { table, item } | Node::Element { table, item, .. } => {
+            (Node::Item { table, item }, table, Some(item))
         }
-        None
+        Node::Rule { table, item, rule }
+        | Node::Statement {
+            table,
+            item,
+            rule,
+            ..
+        }
+        | Node::AnonymousElement {
+            table,
+            item,
+            rule,
+            ..
+        } => { (Node::Rule { table, item, rule }, table, Some(item)) }
     }
 }

@@ -1,16 +1,20 @@
 //! What to do about a fault of a ruleset as a whole.
-use crate::around::Around;
-use crate::name_advice::{duplicate_advice, name_advice, names_wanted};
+use crate::around::{Around, Source};
+use crate::duplicates::put_duplicate;
+use crate::name_advice::{name_advice, names_wanted};
 use crate::type_advice::type_advice;
 use crate::types::Types;
 use crate::value_advice::{put_unread, value_advice};
 use advice::{
     Advice, Gap, VERDICTS, begins_match, fixed, greatest_is, lists, with_text, with_texts,
 };
+use fault_places::tokens_of;
+use fault_spans::FaultSpan;
+use nft_rulesets::ruleset;
 use rule_check::CheckFault;
 use std::alloc::{AllocError, Global};
 
-/// Writes what to do about a fault at an offset of a ruleset that can be parsed, if it is known.
+/// Writes what to do about a fault of a ruleset that is shown at an offset, if it is known.
 ///
 /// # Errors
 /// `AllocError` for want of memory.
@@ -18,12 +22,26 @@ pub fn put_advice_on_rules(
     alloc: Global,
     text: &[u8],
     plant: &[u8],
-    fault: CheckFault,
+    found: FaultSpan,
     offset: usize,
     lines: &mut String,
 ) -> Result<(), AllocError> {
-    let around = Around::new(alloc, text, offset)?;
-    put_advice(alloc, &around, plant, fault, lines)
+    let tokens = tokens_of(alloc, text)?;
+    let Some(tree) = ruleset(alloc, &tokens)? else {
+        return Ok(());
+    };
+    let source = Source {
+        text,
+        tokens: &tokens,
+        tree: &tree,
+    };
+    if let CheckFault::DuplicateName = found.fault {
+        return put_duplicate(alloc, source, found.node, lines);
+    }
+    match Around::new(alloc, source, found.node, offset)? {
+        Some(around) => put_advice(alloc, &around, plant, found.fault, lines),
+        None => Ok(()),
+    }
 }
 
 /// Writes what to do about a fault, if it is known.
@@ -53,7 +71,7 @@ fn check_advice<'a>(
     types: &'a Types,
 ) -> Option<Advice<'a>> {
     let sentence = match fault {
-        CheckFault::DuplicateName => return duplicate_advice(around),
+        CheckFault::DuplicateName => return None,
         CheckFault::NoSuchChain | CheckFault::NoSuchSet | CheckFault::NoSuchInterface => {
             return Some(name_advice(around, fault, names));
         }

@@ -6,6 +6,7 @@
 mod around;
 mod box_advice;
 mod check_advice;
+mod duplicates;
 mod name_advice;
 mod names;
 mod type_advice;

@@ -1,11 +1,11 @@
-//! What to do about a name that stands twice, or isn't declared.
+//! What to do about a name that isn't declared.
 use crate::around::Around;
-use crate::names::{Kind, interfaces};
+use crate::names::{Kind, declared, interfaces, item_named};
 use advice::{
     Advice, DID_YOU_MEAN, DID_YOU_MEAN_ONE_OF, Gap, NO_GAP, filled, fixed, lists, with_text,
-    with_texts, with_words,
+    with_texts,
 };
-use fault_places::position_at;
+use nft_tree::Item;
 use rule_check::CheckFault;
 use std::alloc::{AllocError, Global};
 
@@ -22,26 +22,17 @@ pub fn names_wanted<'a>(
         _ => Kind::Set,
     };
     let mut names = Vec::new(alloc);
-    for item in &around.declared {
-        let is_other = !item.is_base && !item.is_alike(around.inside);
-        if is_other && item.is_beside(kind, around.inside) {
-            names.push(item.name)?;
+    for item in &around.table.items {
+        let is_base = matches!(item, Item::Chain(chain) if chain.head.is_some());
+        if let Some((found, name)) = declared(item)
+            && found == kind
+            && !is_base
+            && !around.is_in(kind, name)
+        {
+            names.push(name)?;
         }
     }
     Ok(names)
-}
-
-/// The line that has the same name before.
-pub fn duplicate_advice<'a>(around: &Around<'a>) -> Option<Advice<'a>> {
-    for item in &around.declared {
-        let start = item.part.start;
-        if item.is_alike(around.inside) && start <= around.text.len() {
-            let line = Gap::Number(position_at(around.text, start).line as u64);
-            let sentence = "Line {} has that name: give this one a name of its own.";
-            return Some(with_words(sentence, line));
-        }
-    }
-    None
 }
 
 /// The one of these names that may be meant by one that isn't declared.
@@ -68,8 +59,8 @@ fn no_set<'a>(names: &'a [&'a str]) -> Advice<'a> {
 /// What to do about the name of a chain that isn't one of these.
 fn no_chain<'a>(around: &Around<'a>, names: &'a [&'a str]) -> Advice<'a> {
     let here = around.here();
-    for item in &around.declared {
-        if item.kind == Kind::Chain && item.name == here {
+    for table in &around.tree.tables {
+        if item_named(table, Kind::Chain, here).is_some() {
             let sentence = "`{}` is a chain of another table: copy it into this one.";
             return with_text(sentence, here);
         }

@@ -1,83 +1,53 @@
 //! The names that a ruleset and a box file declare.
-use fault_places::{Level, Span, Words, box_lines, holds, part_around, shown, spans};
+use nft_tree::{Item, Table};
 use std::alloc::{AllocError, Global};
 
-/// What something is that has a name in a ruleset, as far as names may not stand twice.
+/// What something is that has a name in a table, as far as names may not stand twice.
 #[derive(Clone, Copy, PartialEq, Eq)]
 pub enum Kind {
-    Table,
     Chain,
     /// A set or a map.
     Set,
 }
 
-/// A table, or what is declared in one.
-#[derive(Clone, Copy)]
-pub struct Declared<'a> {
-    pub kind: Kind,
-    /// Whether it is a chain at a hook.
-    pub is_base: bool,
-    pub is_map: bool,
-    /// Of a table.
-    family: &'a str,
-    pub name: &'a str,
-    pub part: Span,
-    /// The table that it is in; that of a table is the table itself.
-    table: Span,
+/// What an item of a table declares, and its name; a comment declares nothing.
+pub fn declared(item: &Item) -> Option<(Kind, &str)> {
+    let (kind, name) = match item {
+        Item::Comment(_) => return None,
+        Item::Chain(chain) => (Kind::Chain, &chain.name),
+        Item::Set(set) => (Kind::Set, &set.name),
+        Item::Map(map) => (Kind::Set, &map.name),
+    };
+    Some((kind, str::from_utf8(name).unwrap_or("")))
 }
 
-impl<'a> Declared<'a> {
-    /// What a part with these words declares, in one of these tables.
-    pub fn new(words: &Words<'a>, part: Span, tables: &[Span]) -> Declared<'a> {
-        let (kind, family, name) = match (words.get(0), words.get(1), words.get(2)) {
-            ("chain", name, _) => (Kind::Chain, "", name),
-            ("set" | "map", name, _) => (Kind::Set, "", name),
-            (_, name, "{") => (Kind::Table, "ip", name),
-            (_, family, name) => (Kind::Table, family, name),
-        };
-        Declared {
-            kind,
-            is_base: kind == Kind::Chain && words.get(3) == "type",
-            is_map: words.get(0) == "map",
-            family,
-            name,
-            part,
-            table: part_around(tables, part.start).unwrap_or(part),
+/// Whether an item declares this.
+pub fn declares(item: &Item, kind: Kind, name: &str) -> bool {
+    match declared(item) {
+        Some((own_kind, own_name)) => own_kind == kind && own_name == name,
+        None => false,
+    }
+}
+
+/// The first item of a table that declares this.
+pub fn item_named<'a>(table: &'a Table, kind: Kind, name: &str) -> Option<&'a Item> {
+    for item in &table.items {
+        if declares(item, kind, name) {
+            return Some(item);
         }
     }
-
-    /// Whether it is of a kind, in the same table as another one.
-    pub fn is_beside(self, kind: Kind, other: Declared<'_>) -> bool {
-        self.kind == kind && holds(self.table, other.part.start)
-    }
-
-    /// Whether it can't stand beside another one, by its name.
-    pub fn is_alike(self, other: Declared<'_>) -> bool {
-        let is_near = self.kind == Kind::Table || self.is_beside(self.kind, other);
-        let is_named = self.family == other.family && self.name == other.name;
-        is_near && is_named && self.kind == other.kind
-    }
-}
-
-/// The tables of a ruleset, and then what they declare, in the order of the text.
-pub fn declared_in<'a>(alloc: Global, text: &'a [u8]) -> Result<Vec<Declared<'a>>, AllocError> {
-    let mut found = Vec::new(alloc);
-    let tables = spans(alloc, text, Level::Tables)?;
-    let mut parts = tables.to_vec(alloc)?;
-    parts.extend_from_slice(&spans(alloc, text, Level::Declarations)?)?;
-    for part in &parts {
-        let words = Words::of(alloc, text, *part)?;
-        found.push(Declared::new(&words, *part, &tables))?;
-    }
-    Ok(found)
+    None
 }
 
 /// The names of a box's interfaces.
 pub fn interfaces<'a>(alloc: Global, plant: &'a [u8]) -> Result<Vec<&'a str>, AllocError> {
     let mut names = Vec::new(alloc);
-    for line in &box_lines(alloc, plant, Level::Declarations)? {
-        let name = shown(plant, *line).split_whitespace().nth(2).unwrap_or("");
-        if !names.contains(&name) {
+    for line in plant.split(|byte| *byte == b'\n') {
+        let mut words = str::from_utf8(line).unwrap_or("").split_whitespace();
+        if words.next() == Some("interface")
+            && let Some(name) = words.nth(1)
+            && !names.contains(&name)
+        {
             names.push(name)?;
         }
     }

@@ -1,12 +1,11 @@
 //! What to do about types that don't fit.
 use crate::around::Around;
-use crate::names::Declared;
 use crate::types::{ADDRESS, MARK, SERVICE, Types, values_of};
 use advice::{
     Advice, DID_YOU_MEAN_ONE_OF, Gap, NO_GAP, VERDICTS, filled, fixed, groups_advice, lists,
     no_value, one_of, with_text, with_words,
 };
-use nft_tree::ComparedType;
+use nft_tree::{ComparedType, Item};
 
 /// What to do about types that don't fit, if it is known.
 pub fn type_advice<'a>(around: &Around<'a>, types: &'a Types) -> Option<Advice<'a>> {
@@ -17,19 +16,20 @@ pub fn type_advice<'a>(around: &Around<'a>, types: &'a Types) -> Option<Advice<'
     }
 }
 
-/// What to do about a set or a map that a rule names.
-fn advice_on_set<'a>(around: &Around<'a>, set: Declared<'a>, types: &'a Types) -> Advice<'a> {
-    match (["vmap", "map"].contains(&around.before(2)), set.is_map) {
+/// What to do about a set or a map that a rule names at the place.
+fn advice_on_set<'a>(around: &Around<'a>, set: &Item, types: &'a Types) -> Advice<'a> {
+    let is_lookup = matches!(around.before(2), "vmap" | "map");
+    match (is_lookup, matches!(set, Item::Map(_))) {
         (true, false) => with_text(
             "`@{}` is a set: name a map, or take out `vmap` or `map` before it.",
-            set.name,
+            around.here(),
         ),
         (false, true) => with_text(
             "`@{}` is a map: write `vmap` or `map` before it, or name a set.",
-            set.name,
+            around.here(),
         ),
-        _ if types.compared == types.keys => advice_on_data(around, set.name, types),
-        _ => other_keys(Gap::Text(set.name), types),
+        _ if types.compared == types.keys => advice_on_data(around, types),
+        _ => other_keys(Gap::Text(around.here()), types),
     }
 }
 
@@ -49,8 +49,8 @@ fn other_keys<'a>(name: Gap<'a>, types: &'a Types) -> Advice<'a> {
     )
 }
 
-/// What to do about the data of a map of this name.
-fn advice_on_data<'a>(around: &Around<'a>, name: &'a str, types: &Types) -> Advice<'a> {
+/// What to do about the data of the map that a rule names at the place.
+fn advice_on_data<'a>(around: &Around<'a>, types: &Types) -> Advice<'a> {
     let wanted = match around.before(2) {
         "vmap" => "verdict",
         _ if around.words.has_before(around.at, "to") => "ipv4_addr",
@@ -62,17 +62,13 @@ fn advice_on_data<'a>(around: &Around<'a>, name: &'a str, types: &Types) -> Advi
     };
     filled(
         "The data of `@{}` are {}: {} is wanted.",
-        [Gap::Text(name), data, Gap::Text(wanted), NO_GAP],
+        [Gap::Text(around.here()), data, Gap::Text(wanted), NO_GAP],
     )
 }
 
 /// What to do about an element of a set or a map.
-fn advice_on_element<'a>(
-    around: &Around<'a>,
-    set: Declared<'a>,
-    types: &Types,
-) -> Option<Advice<'a>> {
-    if !set.is_map {
+fn advice_on_element<'a>(around: &Around<'a>, set: &Item, types: &Types) -> Option<Advice<'a>> {
+    if !matches!(set, Item::Map(_)) {
         return advice_on_parts(around, types.keys.len() as u64);
     }
     let Some(data) = types.data else {

@@ -1,12 +1,10 @@
-//! The types of what is compared, read off the tokens of a rule or a set.
+//! The types of what is compared, of keys and of data.
 use crate::around::Around;
-use fault_places::{tokens_in, tokens_of};
 use nft_expressions::selectors;
-use nft_rulesets::{MapTypes, SetTypes};
-use nft_tree::{ComparedType, SetType, Value, ValueType};
+use nft_lexer::Token;
+use nft_tree::{ComparedType, Item, SetType, Value, ValueType};
 use nft_values::is_value;
 use std::alloc::{AllocError, Global};
-use token_reader::Production;
 
 pub const ADDRESS: ComparedType = ComparedType::Named(ValueType::Address);
 
@@ -63,35 +61,29 @@ impl Types {
     /// `AllocError` for want of memory.
     pub fn at(alloc: Global, around: &Around<'_>) -> Result<Types, AllocError> {
         let mut types = Types {
-            compared: compared_types(alloc, around.start)?,
+            compared: compared_types(alloc, around.words.start(around.at))?,
             keys: Vec::new(alloc),
             data: None,
         };
-        let Some(set) = around.set() else {
-            return Ok(types);
-        };
-        let tokens = tokens_in(alloc, around.text, set.part)?;
-        for at in 0..tokens.len() {
-            if let Some((map, _)) = MapTypes::read(alloc, &tokens, at)? {
-                types.data = map.data();
+        match around.set() {
+            Some(Item::Set(set)) => types.keys = types_of(alloc, &set.key)?,
+            Some(Item::Map(map)) => {
+                types.keys.push(map.types.key())?;
+                types.data = map.types.data();
             }
-            if let Some((keys, _)) = SetTypes::read(alloc, &tokens, at)? {
-                types.keys = types_of(alloc, &keys)?;
-                break;
-            }
+            _ => {}
         }
         Ok(types)
     }
 }
 
 /// The types of the last selectors of a rule's start, joined by dots.
-fn compared_types(alloc: Global, start: &[u8]) -> Result<Vec<ComparedType>, AllocError> {
-    let tokens = tokens_of(alloc, start)?;
+fn compared_types(alloc: Global, start: &[Token<'_>]) -> Result<Vec<ComparedType>, AllocError> {
     let mut last = SetType::Types(Vec::new(alloc));
     let mut end = 0;
-    for at in 0..tokens.len() {
+    for at in 0..start.len() {
         if at >= end
-            && let Some((found, after)) = selectors(alloc, &tokens, at)?
+            && let Some((found, after)) = selectors(alloc, start, at)?
         {
             (last, end) = (SetType::Selectors(found), after);
         }

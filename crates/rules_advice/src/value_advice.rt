@@ -6,7 +6,7 @@ use advice::{
     lists, nearest, no_value, one_of, otherwise, with_texts, write_this,
 };
 use fault_places::Words;
-use nft_tree::{ComparedType, ValueType};
+use nft_tree::{ComparedType, Item, ValueType};
 use std::alloc::{AllocError, Global};
 use std::net::Ipv4Addr;
 
@@ -17,7 +17,7 @@ pub fn value_advice<'a>(around: &Around<'a>, types: &Types) -> Option<Advice<'a>
         (_, _, ":" | "-") if around.words.has_before(around.at, "to") => {
             Some(fixed("Ports are 1 to 65535, the lower one first."))
         }
-        (Some(_), _, _) if around.words.get(0) == "chain" => Some(fixed(
+        (Some(Item::Chain(_)), _, _) => Some(fixed(
             "A priority is a number from -2147483648 to 2147483647.",
         )),
         (Some(_), Some(data), ":") => values_advice(around, &[data]),

@@ -1,0 +1,125 @@
+//! The table, the declaration and the rule around a place of a ruleset, also where that can't be
+//! read: by braces and ends of lines.
+use nft_lexer::{Punctuator, Token, TokenKind};
+use std::alloc::{AllocError, Global};
+
+/// What begins around a place.
+#[derive(Clone, Copy)]
+struct Scan<'a> {
+    tokens: &'a [Token<'a>],
+    /// How many braces are open.
+    depth: usize,
+    /// The tokens with which the table, the declaration in it, and the line in that begin.
+    begun: [Option<usize>; 3],
+    /// How many rules of the chain begin.
+    rules: usize,
+}
+
+/// The table, by default of the family ip, the chain, the set or the map, and the rule around an
+/// offset of the text of these tokens: `table ip filter, chain input, rule 3`; empty outside of
+/// tables.
+///
+/// # Errors
+/// `AllocError` for want of memory.
+pub fn heads_around(
+    alloc: Global,
+    tokens: &[Token<'_>],
+    offset: usize,
+) -> Result<String, AllocError> {
+    let mut scan = Scan {
+        tokens,
+        depth: 0,
+        begun: [None; 3],
+        rules: 0,
+    };
+    for (at, token) in tokens.iter().enumerate() {
+        if offset < token.start {
+            break;
+        }
+        scan.read(at, token, offset);
+    }
+    scan.described(alloc)
+}
+
+impl<'a> Scan<'a> {
+    /// The token so many places behind one, as text; empty where there is none.
+    fn word(self, first: usize, number: usize) -> &'a str {
+        match self.tokens.get(first.saturating_add(number)) {
+            Some(token) => str::from_utf8(token.text).unwrap_or(""),
+            None => "",
+        }
+    }
+
+    /// Reads a token that doesn't begin behind the offset.
+    fn read(&mut self, at: usize, token: &Token<'_>, offset: usize) {
+        match token.kind {
+            TokenKind::NewLine | TokenKind::Punctuator(Punctuator::Semicolon) => self.end(),
+            TokenKind::Punctuator(Punctuator::CloseBrace) => {
+                self.end();
+                self.depth = self.depth.saturating_sub(1);
+                // The brace belongs to what it closes.
+                if self.depth < 2 && token.start < offset {
+                    self.end();
+                }
+            }
+            _ => self.begin(at),
+        }
+        if let TokenKind::Punctuator(Punctuator::OpenBrace) = token.kind {
+            self.depth = self.depth.saturating_add(1);
+        }
+    }
+
+    /// Ends what is in so many braces as are open.
+    fn end(&mut self) {
+        if let Some(begun) = self.begun.get_mut(self.depth) {
+            *begun = None;
+        }
+    }
+
+    /// Begins with a token, if nothing has begun in so many braces.
+    fn begin(&mut self, at: usize) {
+        match self.begun.get_mut(self.depth) {
+            Some(begun) if begun.is_none() => *begun = Some(at),
+            _ => return,
+        }
+        match self.depth {
+            1 => self.rules = 0,
+            2 if self.is_in_rule() => self.rules = self.rules.saturating_add(1),
+            _ => {}
+        }
+    }
+
+    /// Whether the line that has begun is one of a chain, but for `type`, `policy` and `comment`.
+    fn is_in_rule(self) -> bool {
+        match self.begun {
+            [_, Some(item), Some(line)] => {
+                let is_note = matches!(self.word(line, 0), "type" | "policy" | "comment");
+                self.word(item, 0) == "chain" && !is_note
+            }
+            _ => false,
+        }
+    }
+
+    /// The heads of what has begun.
+    fn described(self, alloc: Global) -> Result<String, AllocError> {
+        let mut line = String::new(alloc);
+        let Some(table) = self.begun[0] else {
+            return Ok(line);
+        };
+        if self.word(table, 0) != "table" {
+            return Ok(line);
+        }
+        let (mut family, mut name) = (self.word(table, 1), self.word(table, 2));
+        if name == "{" {
+            (family, name) = ("ip", family);
+        }
+        write!(line, "table {family} {name}")?;
+        if let Some(item) = self.begun[1] {
+            write!(line, ", {} {}", self.word(item, 0), self.word(item, 1))?;
+        }
+        if self.is_in_rule() {
+            write!(line, ", rule {}", self.rules)?;
+        }
+        Ok(line)
+    }
+}
