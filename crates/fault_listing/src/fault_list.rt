@@ -1,30 +1,33 @@
 //! Lists all faults of a ruleset and its box file: a part with a fault is taken out, and the rest is
 //! read again.
-use crate::node_search::NodeSearch;
+use crate::node_search::faulty_nodes;
+use box_file::Plant;
 use fault_location::{
-    Fault, Sources, SyntaxPlace, box_fault, faulty_line, lexical_place, place_in, read_box,
-    shown_word, syntax_place,
+    Fault, Sources, SyntaxPlace, box_fault, fault_word, faulty_line, lexical_place, read_box,
+    syntax_place,
 };
-use fault_places::{Span, bytes_of, heads_around, holds, mask, position_at, span_of, tokens_of};
+use fault_nodes::Node;
+use fault_places::{Span, bytes_of, heads_around, holds, is_in_one, mask, position_at, tokens_of};
 use fault_spans::node_range;
 use nft_lexer::{LexError, Punctuator, Token, TokenKind, lex};
 use nft_parser::TextFault;
-use nft_rulesets::ruleset;
+use nft_rulesets::{has_unsupported, ruleset};
+use nft_tree::Ruleset;
+use node_spans::TokenRange;
 use rule_check::CheckFault;
 use std::alloc::{AllocError, Global};
+use token_reader::after_punctuator;
 use unread_parts::{Part, PartKind, braces_match, unread_parts};
 
 /// The most faults that are listed, per text.
 pub const MOST: usize = 100;
 
-/// How often parts are taken out that can't be read: without its type or its head an item may be one.
-const MOST_ROUNDS: usize = 4;
-
 /// A fault that was found.
 #[derive(Clone, Copy)]
 struct FoundFault {
     offset: usize,
-    fault: Fault,
+    /// None where it follows from a declaration that was taken out, and isn't listed.
+    fault: Option<Fault>,
 }
 
 /// One line for each fault, in the order of the text: the ruleset's and then the box file's, at
@@ -74,7 +77,7 @@ impl<'a> FaultList<'a> {
         self.found.len() < MOST && !self.is_stuck
     }
 
-    fn add(&mut self, offset: usize, fault: Fault) -> Result<(), AllocError> {
+    fn add(&mut self, offset: usize, fault: Option<Fault>) -> Result<(), AllocError> {
         self.found.push(FoundFault { offset, fault })?;
         Ok(())
     }
@@ -96,23 +99,34 @@ impl<'a> FaultList<'a> {
                 return Ok(());
             };
             mask(left, &[line]);
-            self.add(line.start, Fault::Box(fault))?;
+            self.add(line.start, Some(Fault::Box(fault)))?;
         }
         Ok(())
     }
 
-    /// Writes the faults of a ruleset. It is judged as a whole where its box has none.
+    /// Writes the faults of a ruleset. What has one is taken out, until the rest can be read and is
+    /// accepted, or can't be judged.
     fn put_rules(&mut self, plant: &[u8], lines: &mut String) -> Result<(), AllocError> {
         let mut left = self.text.to_vec(self.alloc)?;
-        self.remove_bytes(&mut left)?;
+        self.mark_bytes(&mut left)?;
+        let plant = read_box(self.alloc, plant)?;
+        self.is_partial = plant.is_none();
         let mut tokens = tokens_of(self.alloc, &left)?;
-        self.remove_unread(&mut tokens)?;
-        self.judge(&tokens, plant)?;
+        for round in 0..tokens.len() {
+            if !self.is_open() {
+                break;
+            }
+            let gone = self.list_tokens(&tokens, plant.as_ref(), round > 0)?;
+            if gone.is_empty() {
+                break;
+            }
+            tokens.retain(|token| !is_in_one(&gone, token.start));
+        }
         self.write_to(lines, &left)
     }
 
-    /// Removes what is no token.
-    fn remove_bytes(&mut self, left: &mut Vec<u8>) -> Result<(), AllocError> {
+    /// Puts a mark in place of what is no token, with which the part around it can't be read.
+    fn mark_bytes(&mut self, left: &mut Vec<u8>) -> Result<(), AllocError> {
         for _ in 0..MOST {
             let fault = match lex(self.alloc, left) {
                 Ok(_) => return Ok(()),
@@ -123,147 +137,139 @@ impl<'a> FaultList<'a> {
                 self.is_stuck = true;
                 return Ok(());
             };
-            self.add(offset, Fault::Text(TextFault::Lexical(fault)))?;
+            self.add(offset, Some(Fault::Text(TextFault::Lexical(fault))))?;
             let part = faulty_bytes(left, offset);
             mask(left, &[part]);
-        }
-        Ok(())
-    }
-
-    /// Takes the parts out that can't be read.
-    fn remove_unread(&mut self, tokens: &mut Vec<Token<'_>>) -> Result<(), AllocError> {
-        self.remove_faulty_lines(tokens);
-        for round in 0..MOST_ROUNDS {
-            let parts = unread_parts(self.alloc, tokens)?;
-            if parts.is_empty() || !self.is_open() {
-                return Ok(());
-            }
-            self.list_parts(tokens, &parts, round > 0)?;
-            self.remove_parts(tokens, &parts)?;
-        }
-        Ok(())
-    }
-
-    /// Takes the lines out in which something is no token, but for the heads of what has braces.
-    fn remove_faulty_lines(&self, tokens: &mut Vec<Token<'_>>) {
-        for found in &self.found {
-            let (first, end) = line_around(tokens, found.offset);
-            if first < end && end <= tokens.len() && braces_match(&tokens[first..end]) {
-                let _ = tokens.drain(first..end);
+            if let Some(byte) = left.get_mut(offset) {
+                *byte = b'=';
             }
         }
+        Ok(())
     }
 
-    /// Takes parts out, which are in text order.
-    fn remove_parts(&self, tokens: &mut Vec<Token<'_>>, parts: &[Part]) -> Result<(), AllocError> {
-        let mut left = Vec::with_capacity(self.alloc, tokens.len())?;
-        let mut at = 0;
-        for part in parts {
-            left.extend_from_slice(tokens.get(at..part.first).unwrap_or(&[]))?;
-            at = part.next;
+    /// Lists the parts of a ruleset that can't be read, or else the nodes that are refused, and gives
+    /// the bytes that are taken out for them.
+    fn list_tokens(
+        &mut self,
+        tokens: &[Token<'_>],
+        plant: Option<&Plant>,
+        is_again: bool,
+    ) -> Result<Vec<Span>, AllocError> {
+        let Some(tree) = ruleset(self.alloc, tokens)? else {
+            return self.list_unread(tokens, is_again);
+        };
+        match plant {
+            Some(plant) => self.list_refused(tokens, &tree, plant),
+            None => Ok(Vec::new(self.alloc)),
         }
-        left.extend_from_slice(tokens.get(at..).unwrap_or(&[]))?;
-        *tokens = left;
-        Ok(())
     }
 
     /// Lists parts that can't be read, but for those in which, or, where they are read again, in whose
     /// items, a fault is listed already. Where braces don't match, they aren't known, and the text's
     /// one fault is listed.
-    fn list_parts(
+    fn list_unread(
         &mut self,
         tokens: &[Token<'_>],
-        parts: &[Part],
         is_again: bool,
-    ) -> Result<(), AllocError> {
+    ) -> Result<Vec<Span>, AllocError> {
+        let mut gone = Vec::new(self.alloc);
         if !braces_match(tokens) {
             self.is_stuck = true;
-            return self.list_place(tokens, parts);
+            self.list_place(tokens)?;
+            return Ok(gone);
         }
-        for part in parts {
-            let item = part.item.filter(|_| is_again);
-            let around = tokens.get(item.unwrap_or(part.first)..part.end);
-            if self.is_open() && !self.has_found_in(around.unwrap_or(&[])) {
+        for part in &unread_parts(self.alloc, tokens)? {
+            let first = match part.item {
+                Some(item) if is_again => item,
+                _ => part.first,
+            };
+            if self.is_open() && !self.has_found_in(between(tokens, first, part.end)) {
                 self.list_part(tokens, *part)?;
             }
-            self.note_removed(tokens, *part)?;
+            if part.item.is_none() && part.kind == PartKind::Item {
+                self.note_removed(tokens.get(part.first..part.end).unwrap_or(&[]))?;
+            }
+            gone.push(between(tokens, part.first, part.next))?;
         }
-        Ok(())
+        Ok(gone)
     }
 
-    /// Lists the fault of a ruleset whose parts aren't known.
-    fn list_place(&mut self, tokens: &[Token<'_>], parts: &[Part]) -> Result<(), AllocError> {
-        let fault = fault_of(tokens, parts);
-        match syntax_place(self.alloc, tokens, fault)? {
-            Some(place) => self.add(place.offset(tokens), Fault::Text(fault)),
-            None => Ok(()),
+    /// Lists the fault of a ruleset whose parts aren't known, unless one is listed at its place.
+    fn list_place(&mut self, tokens: &[Token<'_>]) -> Result<(), AllocError> {
+        let fault = if has_unsupported(tokens) {
+            TextFault::Unsupported
+        } else {
+            TextFault::Syntax
+        };
+        let Some(place) = syntax_place(self.alloc, tokens, fault)? else {
+            return Ok(());
+        };
+        let start = place.offset(tokens);
+        let end = start.saturating_add(1);
+        if self.has_found_in(Span { start, end }) {
+            return Ok(());
         }
+        self.add(start, Some(Fault::Text(fault)))
     }
 
     /// Lists the fault of a part.
     fn list_part(&mut self, tokens: &[Token<'_>], part: Part) -> Result<(), AllocError> {
-        let fault = fault_of(tokens, &[part]);
-        let at = place_in(self.alloc, tokens, part, fault)?;
+        let (at, fault) = match part.unsupported_word(tokens) {
+            Some(word) => (word, TextFault::Unsupported),
+            None => (part.first_refused(self.alloc, tokens)?, TextFault::Syntax),
+        };
         let place = SyntaxPlace::Part { at, part };
-        self.add(place.offset(tokens), Fault::Text(fault))
+        self.add(place.offset(tokens), Some(Fault::Text(fault)))
     }
 
-    /// Notes the name of an item that is taken out, and whether more than that is lost.
-    fn note_removed(&mut self, tokens: &[Token<'_>], part: Part) -> Result<(), AllocError> {
-        if part.item.is_some() || !matches!(part.kind, PartKind::Tables | PartKind::Item) {
-            return Ok(());
-        }
-        self.is_partial = self.is_partial || has_parts(tokens, part);
-        if let Some(name) = tokens.get(part.first.saturating_add(1)) {
+    /// Whether a fault was found in some bytes.
+    fn has_found_in(&self, bytes: Span) -> bool {
+        let mut all = self.found.iter();
+        all.any(|found| holds(bytes, found.offset))
+    }
+
+    /// Notes the name of a declaration that is taken out, and whether rules or elements are lost.
+    fn note_removed(&mut self, tokens: &[Token<'_>]) -> Result<(), AllocError> {
+        self.is_partial = self.is_partial || has_parts(tokens);
+        if let Some(name) = tokens.get(1) {
             self.removed.push(name.text.to_vec(self.alloc)?)?;
         }
         Ok(())
     }
 
-    /// Whether a fault was found in some tokens.
-    fn has_found_in(&self, tokens: &[Token<'_>]) -> bool {
-        let (Some(first), Some(last)) = (tokens.first(), tokens.last()) else {
-            return false;
-        };
-        let (start, end) = (first.start, span_of(last).end);
-        let mut all = self.found.iter();
-        all.any(|found| holds(Span { start, end }, found.offset))
-    }
-
-    /// Lists the faults of the ruleset that is left, if its box has none.
-    fn judge(&mut self, tokens: &[Token<'_>], plant: &[u8]) -> Result<(), AllocError> {
-        let plant = read_box(self.alloc, plant)?;
-        self.is_partial = self.is_partial || plant.is_none();
-        if !self.is_open() {
-            return Ok(());
-        }
-        match (ruleset(self.alloc, tokens)?, plant) {
-            (Some(tree), Some(plant)) => {
-                self.add_nodes(tokens, &mut NodeSearch::of(self.alloc, tree, &plant)?)
-            }
-            _ => {
-                self.is_partial = true;
-                Ok(())
-            }
-        }
-    }
-
-    /// Lists the nodes that a search found.
-    fn add_nodes(
+    /// Lists nodes of a ruleset that are refused.
+    fn list_refused(
         &mut self,
         tokens: &[Token<'_>],
-        search: &mut NodeSearch<'_>,
-    ) -> Result<(), AllocError> {
-        self.is_partial = self.is_partial || search.is_partial;
-        self.removed.append(&mut search.removed)?;
-        for found in &search.found {
-            if let Some(range) = node_range(self.alloc, tokens, found.node)? {
+        tree: &Ruleset,
+        plant: &Plant,
+    ) -> Result<Vec<Span>, AllocError> {
+        let mut gone = Vec::new(self.alloc);
+        for found in &faulty_nodes(self.alloc, tree, plant)? {
+            if self.is_open()
+                && !self.is_listed(found.fault)
+                && let Some(range) = node_range(self.alloc, tokens, found.node)?
+            {
                 let its_tokens = tokens.get(range.first..range.end).unwrap_or(&[]);
-                let word = shown_word(found.node, found.fault, found.is_of_data, its_tokens);
+                let word = fault_word(self.alloc, tree, plant, *found, its_tokens)?;
                 self.add_refused(found.fault, word)?;
+                gone.push(self.removed_for(found.node, tokens, range, word)?)?;
             }
         }
-        Ok(())
+        Ok(gone)
+    }
+
+    /// Whether a fault is one of the ruleset as a whole that no rule has alone, and is listed already.
+    fn is_listed(&self, fault: CheckFault) -> bool {
+        let is_wide = matches!(
+            fault,
+            CheckFault::TooDeep | CheckFault::TooCostly | CheckFault::TooLarge
+        );
+        let mut all = self.found.iter();
+        is_wide
+            && all.any(|found| {
+                matches!(found.fault, Some(Fault::Check(listed)) if listed as u8 == fault as u8)
+            })
     }
 
     /// Lists the fault of a node at a word, unless it follows from a declaration that was taken out.
@@ -273,9 +279,29 @@ impl<'a> FaultList<'a> {
         let mut removed = self.removed.iter();
         if is_name && removed.any(|removed| removed.as_slice() == name) {
             self.is_partial = true;
-            return Ok(());
+            return self.add(word.start, None);
         }
-        self.add(word.start, Fault::Check(fault))
+        self.add(word.start, Some(Fault::Check(fault)))
+    }
+
+    /// The bytes that are taken out for a node: of a chain with a wrong head the word, without which
+    /// the head can't be read; else its tokens, with the comma behind an element.
+    fn removed_for(
+        &mut self,
+        node: Node,
+        tokens: &[Token<'_>],
+        range: TokenRange,
+        word: Span,
+    ) -> Result<Span, AllocError> {
+        let TokenRange { first, end } = range;
+        if let Node::Table { .. } | Node::Item { .. } = node {
+            if start_of(tokens, first) < word.start {
+                return Ok(word);
+            }
+            self.note_removed(tokens.get(first..end).unwrap_or(&[]))?;
+        }
+        let comma = after_punctuator(tokens, end, Punctuator::Comma);
+        Ok(between(tokens, first, comma.unwrap_or(end)))
     }
 
     /// Writes a line for each fault, in the order of the text, where some text has the parts around
@@ -285,7 +311,9 @@ impl<'a> FaultList<'a> {
         let tokens = tokens_of(self.alloc, parts)?;
         for found in &self.found {
             let around = heads_around(self.alloc, &tokens, found.offset)?;
-            self.write_fault(lines, *found, around.as_str())?;
+            if let Some(fault) = found.fault {
+                self.write_fault(lines, fault, found.offset, around.as_str())?;
+            }
         }
         let path = self.path;
         if self.is_stuck || self.is_partial {
@@ -301,14 +329,15 @@ impl<'a> FaultList<'a> {
     fn write_fault(
         &self,
         lines: &mut String,
-        found: FoundFault,
+        fault: Fault,
+        offset: usize,
         around: &str,
     ) -> Result<(), AllocError> {
-        if found.offset > self.text.len() {
+        if offset > self.text.len() {
             return Ok(());
         }
-        let (path, at) = (self.path, position_at(self.text, found.offset));
-        let code = found.fault.code(self.alloc)?;
+        let (path, at) = (self.path, position_at(self.text, offset));
+        let code = fault.code(self.alloc)?;
         let code = code.as_str();
         write!(lines, "{path}:{}:{}: {code}", at.line, at.column)?;
         if !around.is_empty() {
@@ -318,16 +347,6 @@ impl<'a> FaultList<'a> {
             Some(known) => writeln!(lines, ": {}", known.sentence),
             None => lines.push('\n'),
         }
-    }
-}
-
-/// The fault of parts of which each has one.
-fn fault_of(tokens: &[Token<'_>], parts: &[Part]) -> TextFault {
-    let mut all = parts.iter();
-    if all.any(|part| part.unsupported_word(tokens).is_some()) {
-        TextFault::Unsupported
-    } else {
-        TextFault::Syntax
     }
 }
 
@@ -345,36 +364,31 @@ fn faulty_bytes(text: &[u8], offset: usize) -> Span {
     }
 }
 
-/// The tokens of the line around an offset, `end` exclusive.
-fn line_around(tokens: &[Token<'_>], offset: usize) -> (usize, usize) {
-    let mut all = tokens.iter();
-    let end = all.position(|token| {
-        offset <= token.start && is_end(token, Punctuator::CloseBrace)
-    });
-    let end = end.unwrap_or(tokens.len());
-    let mut before = tokens.get(..end).unwrap_or(&[]).iter();
-    let first = before.rposition(|token| is_end(token, Punctuator::OpenBrace));
-    (first.map_or(0, |at| at.saturating_add(1)), end)
-}
-
-/// Whether a token ends a line: a newline, a semicolon or this brace.
-fn is_end(token: &Token<'_>, brace: Punctuator) -> bool {
-    match token.kind {
-        TokenKind::NewLine | TokenKind::Punctuator(Punctuator::Semicolon) => true,
-        TokenKind::Punctuator(mark) => mark == brace,
-        _ => false,
+/// The bytes from a token up to another one.
+fn between(tokens: &[Token<'_>], first: usize, end: usize) -> Span {
+    Span {
+        start: start_of(tokens, first),
+        end: start_of(tokens, end),
     }
 }
 
-/// Whether a chain has anything behind its opening brace, or a set or a map elements.
-fn has_parts(tokens: &[Token<'_>], part: Part) -> bool {
-    let inner = part.first.saturating_add(3)..part.end.saturating_sub(1);
-    let mut inner = tokens.get(inner).unwrap_or(&[]).iter();
-    let Some(kind) = tokens.get(part.first) else {
+/// Where a token begins; behind each text where there is none.
+fn start_of(tokens: &[Token<'_>], at: usize) -> usize {
+    match tokens.get(at) {
+        Some(token) => token.start,
+        None => usize::MAX,
+    }
+}
+
+/// Whether a table or a chain has anything behind its opening brace, or a set or a map elements.
+fn has_parts(tokens: &[Token<'_>]) -> bool {
+    let Some(kind) = tokens.first() else {
         return false;
     };
+    let inner = tokens.get(3..tokens.len().saturating_sub(1));
+    let mut inner = inner.unwrap_or(&[]).iter();
     match str::from_utf8(kind.text) {
-        Ok("chain") => inner.any(|token| !matches!(token.kind, TokenKind::NewLine)),
+        Ok("table" | "chain") => inner.any(|token| !matches!(token.kind, TokenKind::NewLine)),
         Ok("set" | "map") => inner.any(|token| token.text == b"elements".as_slice()),
         _ => false,
     }

@@ -10,5 +10,5 @@ mod text_place;
 
 pub use box_place::faulty_line;
 pub use faults::{Fault, SourcePaths, Sources, box_fault, read_box};
-pub use node_place::{CheckPlace, check_place, is_of_data, pairs_in, shown_word};
-pub use text_place::{SyntaxPlace, lexical_place, place_in, syntax_place};
+pub use node_place::{CheckPlace, check_place, fault_word};
+pub use text_place::{SyntaxPlace, lexical_place, syntax_place};

@@ -1,9 +1,9 @@
 //! Where a fault of a ruleset as a whole stands: at the node with which the ruleset gets it.
 use crate::faults::read_box;
 use box_file::Plant;
-use fault_nodes::{Node, declarations, ruleset_between, ruleset_parts};
+use fault_nodes::{FaultyNode, Node, declarations, ruleset_between, ruleset_parts};
 use fault_places::{Span, span_of, tokens_of};
-use fault_spans::{FaultSpan, fault_span, node_range};
+use fault_spans::{fault_span, node_range};
 use nft_lexer::{Punctuator, Token, TokenKind};
 use nft_rulesets::ruleset;
 use nft_tree::{
@@ -16,7 +16,7 @@ use std::alloc::{AllocError, Global};
 /// A fault of a ruleset, and the word at which it is shown.
 #[derive(Clone, Copy)]
 pub struct CheckPlace {
-    pub found: FaultSpan,
+    pub found: FaultyNode,
     pub word: Span,
 }
 
@@ -40,10 +40,13 @@ pub fn check_place(
     let Some(range) = node_range(alloc, &tokens, found.node)? else {
         return Ok(None);
     };
-    let part = found.position.saturating_sub(declarations(&tree));
-    let is_of_data = is_of_data(alloc, &tree, &plant, part, found.fault)?;
     let own = tokens.get(range.first..range.end).unwrap_or(&[]);
-    let word = shown_word(found.node, found.fault, is_of_data, own);
+    let found = FaultyNode {
+        fault: found.fault,
+        node: found.node,
+        position: found.position,
+    };
+    let word = fault_word(alloc, &tree, &plant, found, own)?;
     Ok(Some(CheckPlace { found, word }))
 }
 
@@ -63,36 +66,67 @@ fn likely_position(alloc: Global, tree: &Ruleset, plant: &Plant) -> Result<usize
     Ok(declarations(tree).saturating_add(start))
 }
 
-/// Whether the fault of a part of a ruleset, an element of a map, is one of its data: with no other
-/// data has it the fault.
+/// The word at which the fault of a node of a ruleset is shown, which has these tokens: by default the
+/// first one.
 ///
 /// # Errors
 /// `AllocError` for want of memory.
-pub fn is_of_data(
+pub fn fault_word(
     alloc: Global,
     tree: &Ruleset,
     plant: &Plant,
-    part: usize,
-    fault: CheckFault,
+    found: FaultyNode,
+    tokens: &[Token<'_>],
+) -> Result<Span, AllocError> {
+    let shown = match (found.node, found.fault) {
+        (Node::Item { .. }, CheckFault::WrongValue | CheckFault::MisplacedNatChain) => {
+            end_of_priority(tokens)
+        }
+        (Node::Statement { .. }, CheckFault::MisplacedNat | CheckFault::StatementAfterVerdict) =>
+            None,
+        (Node::Statement { .. }, _) => tokens.last(),
+        (Node::Element { .. } | Node::AnonymousElement { .. }, _) => if is_of_data(
+            alloc, tree, plant, found,
+        )? {
+            tokens.last()
+        } else {
+            None
+        },
+        _ => None,
+    };
+    Ok(match shown.or(tokens.first()) {
+        Some(token) => span_of(token),
+        None => Span { start: 0, end: 0 },
+    })
+}
+
+/// Whether the fault of an element of a map is one of its data: with no other data has it the fault.
+fn is_of_data(
+    alloc: Global,
+    tree: &Ruleset,
+    plant: &Plant,
+    found: FaultyNode,
 ) -> Result<bool, AllocError> {
-    match fault {
+    match found.fault {
         CheckFault::Contradiction | CheckFault::TooLarge => return Ok(false),
         CheckFault::TypeMismatch | CheckFault::WrongValue | CheckFault::NoSuchInterface => {}
         _ => return Ok(true),
     }
+    let part = found.position.saturating_sub(declarations(tree));
     let mut alone = ruleset_between(alloc, tree, part, part.saturating_add(1))?;
-    for number in 0..3 {
+    for data in [
+        Data::Verdict(Verdict::Accept),
+        Data::Value(Value::Address(0)),
+        Data::Value(Value::Number(0)),
+    ] {
         let Some(pair) = first_pair(&mut alone) else {
             return Ok(false);
         };
-        pair.value = match number {
-            0 => Data::Verdict(Verdict::Accept),
-            1 => Data::Value(Value::Address(0)),
-            _ => Data::Value(Value::Number(0)),
-        };
-        // Neither the fault nor one before it.
-        if least_fault(alloc, &alone, plant)?.is_none_or(|found| found as u8 > fault as u8) {
-            return Ok(true);
+        pair.value = data;
+        match least_fault(alloc, &alone, plant)? {
+            // The fault, or one before it.
+            Some(left) if left as u8 <= found.fault as u8 => {}
+            _ => return Ok(true),
         }
     }
     Ok(false)
@@ -100,10 +134,14 @@ pub fn is_of_data(
 
 /// The first element of a map, also of an anonymous one.
 fn first_pair(tree: &mut Ruleset) -> Option<&mut Pair> {
-    tree.tables
-        .iter_mut()
-        .flat_map(|table| &mut table.items)
-        .find_map(pair_in)
+    for table in &mut tree.tables {
+        for item in &mut table.items {
+            if let Some(pair) = pair_in(item) {
+                return Some(pair);
+            }
+        }
+    }
+    None
 }
 
 fn pair_in(item: &mut Item) -> Option<&mut Pair> {
@@ -117,40 +155,22 @@ fn pair_in(item: &mut Item) -> Option<&mut Pair> {
     }
 }
 
-/// The word at which the fault of a node with these tokens is shown: by default the first one.
-pub fn shown_word(node: Node, fault: CheckFault, is_of_data: bool, tokens: &[Token<'_>]) -> Span {
-    let shown = match (node, fault) {
-        (Node::Item { .. }, CheckFault::WrongValue | CheckFault::MisplacedNatChain) => {
-            end_of_priority(tokens)
-        }
-        (Node::Statement { .. }, CheckFault::MisplacedNat | CheckFault::StatementAfterVerdict) =>
-            None,
-        (Node::Statement { .. }, _) => tokens.last(),
-        (Node::Element { .. } | Node::AnonymousElement { .. }, _) if is_of_data => tokens.last(),
-        _ => None,
-    };
-    match shown.or(tokens.first()) {
-        Some(token) => span_of(token),
-        None => Span { start: 0, end: 0 },
-    }
-}
-
 /// The last word of a chain's priority.
 fn end_of_priority<'a, 't>(tokens: &'a [Token<'t>]) -> Option<&'a Token<'t>> {
-    let priority = tokens
-        .iter()
-        .skip_while(|token| token.text != b"priority".as_slice());
-    let mut line = priority.take_while(|token| {
-        !matches!(
-            token.kind,
-            TokenKind::NewLine | TokenKind::Punctuator(Punctuator::Semicolon)
-        )
-    });
-    line.last()
+    let mut last = None;
+    for token in tokens {
+        match token.kind {
+            TokenKind::NewLine | TokenKind::Punctuator(Punctuator::Semicolon) if last.is_some() =>
+                break,
+            _ if last.is_some() || token.text == b"priority".as_slice() => last = Some(token),
+            _ => {}
+        }
+    }
+    last
 }
 
 /// The elements of the anonymous map in a statement.
-pub fn pairs_in(statement: &mut Stmt) -> Option<&mut Vec<Pair>> {
+fn pairs_in(statement: &mut Stmt) -> Option<&mut Vec<Pair>> {
     let map = match statement {
         Stmt::VerdictMap(_, map) => map,
         Stmt::SetMark(_, Operand::MapLookup(look))

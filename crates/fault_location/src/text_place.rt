@@ -118,20 +118,3 @@ fn first_with(parts: &[Part], tokens: &[Token<'_>], fault: TextFault) -> Part {
         item: None,
     })
 }
-
-/// The token at which a part has its fault: its unsupported word, or the first one that the grammar
-/// doesn't allow.
-///
-/// # Errors
-/// `AllocError` for want of memory.
-pub fn place_in(
-    alloc: Global,
-    tokens: &[Token<'_>],
-    part: Part,
-    fault: TextFault,
-) -> Result<usize, AllocError> {
-    match part.unsupported_word(tokens) {
-        Some(word) if fault == TextFault::Unsupported => Ok(word),
-        _ => part.first_refused(alloc, tokens),
-    }
-}

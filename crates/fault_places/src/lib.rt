@@ -11,6 +11,6 @@ mod position;
 mod words;
 
 pub use heads::heads_around;
-pub use part::{Span, bytes_of, holds, mask, rest_from, shown, span_of, tokens_of};
+pub use part::{Span, bytes_of, holds, is_in_one, mask, rest_from, shown, span_of, tokens_of};
 pub use position::{Position, position_at, show};
 pub use words::Words;

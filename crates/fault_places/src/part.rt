@@ -50,6 +50,16 @@ pub fn holds(part: Span, offset: usize) -> bool {
     part.start <= offset && offset < part.end
 }
 
+/// Whether an offset lies in one of some parts.
+pub fn is_in_one(parts: &[Span], offset: usize) -> bool {
+    for part in parts {
+        if holds(*part, offset) {
+            return true;
+        }
+    }
+    false
+}
+
 /// The bytes of a token.
 pub fn span_of(token: &Token<'_>) -> Span {
     Span {

@@ -8,8 +8,8 @@ use crate::value_advice::{put_unread, value_advice};
 use advice::{
     Advice, Gap, VERDICTS, begins_match, fixed, greatest_is, lists, with_text, with_texts,
 };
+use fault_nodes::FaultyNode;
 use fault_places::tokens_of;
-use fault_spans::FaultSpan;
 use nft_rulesets::ruleset;
 use rule_check::CheckFault;
 use std::alloc::{AllocError, Global};
@@ -22,7 +22,7 @@ pub fn put_advice_on_rules(
     alloc: Global,
     text: &[u8],
     plant: &[u8],
-    found: FaultSpan,
+    found: FaultyNode,
     offset: usize,
     lines: &mut String,
 ) -> Result<(), AllocError> {
