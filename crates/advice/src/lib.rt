@@ -13,9 +13,10 @@ pub use near::{changes, nearest};
 pub use nft_rulesets::{NO_VARIABLES, ONLY_IPV4};
 pub use sentences::{
     Advice, DID_YOU_MEAN, DID_YOU_MEAN_ONE_OF, Gap, NO_GAP, filled, fixed, greatest_is,
-    groups_advice, no_value, one_of, with_text, with_texts, with_words, write_this,
+    groups_advice, no_value, one_of, put_known, with_text, with_texts, with_words, write_this,
 };
 pub use unread::{COMMENT_MARK, OF_IPTABLES, OF_JSON, Place, left_out};
 pub use vocabulary::{
-    Kind, VERDICTS, begins_match, begins_statement, has_constant, kinds, lists, otherwise,
+    VERDICTS, begins_match, begins_statement, constants, has_constant, kinds, lists, names,
+    otherwise,
 };

@@ -24,9 +24,6 @@ pub enum Gap<'a> {
     Types(&'a [ComparedType]),
 }
 
-/// The groups of an address.
-const GROUPS: u64 = 4;
-
 /// What fills a gap that a sentence doesn't have.
 pub const NO_GAP: Gap<'static> = Gap::Text("");
 
@@ -37,7 +34,7 @@ impl<'a> Gap<'a> {
             Gap::Words(words) => words.to_vec(alloc),
             Gap::Listed(words) => words.split(' ').collect(alloc),
             Gap::Constants(of) => names(alloc, constants(of)),
-            Gap::Text(_) | Gap::Number(_) | Gap::Type(_) | Gap::Types(_) => Ok(Vec::new(alloc)),
+            _ => Ok(Vec::new(alloc)),
         }
     }
 
@@ -45,11 +42,9 @@ impl<'a> Gap<'a> {
         match self {
             Gap::Text(text) => lines.push_str(text),
             Gap::Number(number) => write!(lines, "{number}"),
-            Gap::Words(_) | Gap::Listed(_) | Gap::Constants(_) => {
-                put_list(lines, &self.words(alloc)?)
-            }
-            Gap::Type(of) => put_type(lines, of),
+            Gap::Type(of) => put_types(lines, &[of]),
             Gap::Types(types) => put_types(lines, types),
+            _ => put_list(lines, &self.words(alloc)?),
         }
     }
 }
@@ -64,23 +59,18 @@ fn put_list(lines: &mut String, words: &[&str]) -> Result<(), AllocError> {
     Ok(())
 }
 
-/// Writes types with a dot between two.
+/// Writes the names of types, of one without a name its width, with a dot between two.
 fn put_types(lines: &mut String, types: &[ComparedType]) -> Result<(), AllocError> {
     let mut mark = "";
     for of in types {
         lines.push_str(mark)?;
-        put_type(lines, *of)?;
+        match *of {
+            ComparedType::Named(of) => lines.push_str(name_of(of))?,
+            ComparedType::Unnamed(width) => write!(lines, "number of {width} bits")?,
+        }
         mark = " . ";
     }
     Ok(())
-}
-
-/// Writes the name of a type, or its width where it has none.
-fn put_type(lines: &mut String, of: ComparedType) -> Result<(), AllocError> {
-    match of {
-        ComparedType::Named(of) => lines.push_str(name_of(of)),
-        ComparedType::Unnamed(width) => write!(lines, "number of {width} bits"),
-    }
 }
 
 /// Words of which one may be meant by the one that was written.
@@ -103,12 +93,7 @@ pub struct Advice<'a> {
 
 impl<'a> Advice<'a> {
     /// The same, unless one of some words is near the one that was written.
-    pub fn unless_near(
-        self,
-        written: &'a str,
-        words: Gap<'a>,
-        question: &'static str,
-    ) -> Advice<'a> {
+    pub fn unless_near(self, written: &'a str, words: Gap<'a>, question: &'static str) -> Self {
         let guess = Some(Guess {
             written,
             words,
@@ -128,6 +113,21 @@ impl<'a> Advice<'a> {
         }
         put_filled(alloc, lines, self.sentence, &self.gaps)
     }
+}
+
+/// Writes advice, if there is any; whether there is.
+///
+/// # Errors
+/// `AllocError` for want of memory.
+pub fn put_known(
+    alloc: Global,
+    advice: Option<Advice<'_>>,
+    lines: &mut String,
+) -> Result<bool, AllocError> {
+    if let Some(advice) = advice {
+        advice.put(alloc, lines)?;
+    }
+    Ok(advice.is_some())
 }
 
 /// Writes a sentence on a line, its gaps filled.
@@ -207,9 +207,9 @@ pub fn no_value<'a>(of: ComparedType, instead: &'a str) -> Advice<'a> {
 /// An address has four groups.
 pub fn groups_advice<'a>(word: &str) -> Option<Advice<'a>> {
     let groups = word.split('.').count() as u64;
-    if groups == 1 || groups == GROUPS || !matches!(word.as_bytes(), [b'0'..=b'9', ..]) {
+    if matches!(groups, 1 | 4) || !matches!(word.as_bytes(), [b'0'..=b'9', ..]) {
         return None;
     }
-    let gaps = [Gap::Number(GROUPS), Gap::Number(groups), NO_GAP, NO_GAP];
-    Some(filled("An address has {} groups of digits, this one {}.", gaps))
+    let sentence = "An address has 4 groups of digits, this one {}.";
+    Some(with_words(sentence, Gap::Number(groups)))
 }

@@ -98,29 +98,28 @@ fn field_of(header: &str, word: &str) -> Option<&'static str> {
 
 /// What to do about a word that isn't read in a rule, or outside of rules.
 fn there(word: &str, place: Place<'_>) -> Option<&'static str> {
-    Some(match (place.is_in_rule, word) {
-        (false, "device" | "devices") => "Chains stand at no device: take it out.",
-        (false, "counter" | "secmark") => {
+    Some(match place.is_in_rule {
+        false if lists("device devices", word) => "Chains stand at no device: take it out.",
+        false if lists("counter secmark", word) => {
             "There are no named objects: take it out, and write `counter` in the rules."
         }
-        (false, "last" | "ipsec" | "tunnel") => "It isn't read: take it out.",
+        false if lists("last ipsec tunnel", word) => "It isn't read: take it out.",
         // A command, as `list`.
-        (false, "flush") => return instead_of(b"list"),
-        (true, "level" | "group" | "snaplen" | "queue-threshold" | "flags")
-            if place.is_behind_log => { "Of `log`, `prefix` alone is read: take the option out." }
-        (true, "add" | "update" | "delete") => {
+        false if word == "flush" => return instead_of(b"list"),
+        true if place.is_behind_log && lists("level group snaplen queue-threshold flags", word) => {
+            "Of `log`, `prefix` alone is read: take the option out."
+        }
+        true if lists("add update delete", word) => {
             "Rules don't change sets: take the statement out, and list what is in the set as `elements`."
         }
-        (true, "meter") => "Meters aren't read: take it out up to its `}`, or the rule.",
-        (true, "sctp" | "dccp" | "udplite" | "esp" | "ah" | "comp" | "igmp" | "gre") => {
+        true if word == "meter" => "Meters aren't read: take it out up to its `}`, or the rule.",
+        true if lists("sctp dccp udplite esp ah comp igmp gre", word) => {
             "This header isn't read: compare `ip protocol`."
         }
-        (true, "xt") => "Matches of iptables aren't read: write them as nft's.",
-        (true, "ctstate" | "conntrack") => "Write `ct state`.",
-        (true, "frag" | "exthdr" | "hbh" | "dst" | "mh" | "srh") => ONLY_IPV4,
-        (true, _) if lists(UNREAD_MATCHES, word) => {
-            "It isn't read: take the match out, or the rule."
-        }
+        true if word == "xt" => "Matches of iptables aren't read: write them as nft's.",
+        true if lists("ctstate conntrack", word) => "Write `ct state`.",
+        true if lists("frag exthdr hbh dst mh srh", word) => ONLY_IPV4,
+        true if lists(UNREAD_MATCHES, word) => "It isn't read: take the match out, or the rule.",
         _ => return None,
     })
 }

@@ -1,22 +1,7 @@
 //! The words of the profile by what they are, and what others write for them.
-use nft_expressions::{Header, Keywords, without_header};
+use nft_expressions::{Header, without_header};
 use nft_tree::{ComparedType, ValueType};
 use std::alloc::{AllocError, Global};
-
-/// Words of which one stands in a place.
-#[derive(Clone, Copy)]
-pub enum Kind {
-    /// Words with a blank between two.
-    Listed(&'static str),
-    /// What selectors of two words begin with.
-    Headers,
-    /// Selectors by themselves, or behind a header.
-    Selectors(Keywords),
-    /// The names of the types of keys and data.
-    Types,
-    /// The constants of a type; a number without a name has none.
-    Constants(ComparedType),
-}
 
 /// The words that begin a verdict, with a blank between two.
 pub const VERDICTS: &str = "accept drop continue return jump goto";
@@ -78,44 +63,30 @@ static OTHERWISE: [(&str, &str); 29] = [
     ("ipv6-icmp", "icmpv6"),
 ];
 
-impl Kind {
-    /// The words; none of a type without constants.
-    ///
-    /// # Errors
-    /// `AllocError` for want of memory.
-    pub fn words(self, alloc: Global) -> Result<Vec<&'static str>, AllocError> {
-        match self {
-            Kind::Listed(words) => words.split(' ').collect(alloc),
-            Kind::Headers => names(alloc, Header::with_names()),
-            Kind::Selectors(keywords) => names(alloc, keywords),
-            Kind::Types => names(alloc, ValueType::with_names()),
-            Kind::Constants(of) => names(alloc, constants(of)),
-        }
-    }
-}
-
-/// The kinds of words. Which of them may stand at a place is asked of the parser.
+/// The words of each kind, of which one stands in a place. Which of them may stand there is asked of
+/// the parser.
 ///
 /// # Errors
 /// `AllocError` for want of memory.
-pub fn kinds(alloc: Global) -> Result<Vec<Kind>, AllocError> {
-    let (headers, types) = (Header::with_names().iter(), ValueType::with_names().iter());
-    let mut all: Vec<Kind> = LISTED
-        .iter()
-        .map(|words| Kind::Listed(*words))
-        .collect(alloc)?;
-    all.extend([
-        Kind::Headers,
-        Kind::Selectors(without_header()),
-        Kind::Types,
-    ])?;
-    all.extend(headers.map(|row| Kind::Selectors(row.1.keywords())))?;
-    all.extend(types.map(|row| Kind::Constants(ComparedType::Named(row.1))))?;
+pub fn kinds(alloc: Global) -> Result<Vec<Vec<&'static str>>, AllocError> {
+    let mut all = Vec::new(alloc);
+    for words in &LISTED {
+        all.push(words.split(' ').collect(alloc)?)?;
+    }
+    all.push(names(alloc, Header::with_names())?)?;
+    all.push(names(alloc, without_header())?)?;
+    all.push(names(alloc, ValueType::with_names())?)?;
+    for row in Header::with_names() {
+        all.push(names(alloc, row.1.keywords())?)?;
+    }
+    for row in ValueType::with_names() {
+        all.push(names(alloc, row.1.words())?)?;
+    }
     Ok(all)
 }
 
-/// The constants of a type, each with its number.
-pub(crate) fn constants(of: ComparedType) -> &'static [(&'static [u8], u32)] {
+/// The constants of a type, each with its number; a number without a name has none.
+pub fn constants(of: ComparedType) -> &'static [(&'static [u8], u32)] {
     match of {
         ComparedType::Named(of) => of.words(),
         ComparedType::Unnamed(_) => &[],
@@ -139,27 +110,47 @@ pub fn begins_statement(word: &str) -> bool {
 
 /// The name of a type.
 pub(crate) fn name_of(of: ValueType) -> &'static str {
-    let named = ValueType::with_names().iter().find(|row| row.1 == of);
-    named.map_or("", |row| str::from_utf8(row.0).unwrap_or(""))
+    for row in ValueType::with_names() {
+        if row.1 == of {
+            return str::from_utf8(row.0).unwrap_or("");
+        }
+    }
+    ""
 }
 
 /// The names in a table, which are ASCII.
-pub(crate) fn names<'a, T>(
+///
+/// # Errors
+/// `AllocError` for want of memory.
+pub fn names<'a, T>(
     alloc: Global,
     table: &[(&'static [u8], T)],
 ) -> Result<Vec<&'a str>, AllocError> {
-    let names = table.iter().map(|row| str::from_utf8(row.0).unwrap_or(""));
-    names.collect(alloc)
+    let mut names = Vec::new(alloc);
+    for row in table {
+        names.push(str::from_utf8(row.0).unwrap_or(""))?;
+    }
+    Ok(names)
 }
 
 /// Whether a word is one of the names in a table.
 fn is_name<T>(table: &[(&'static [u8], T)], word: &str) -> bool {
-    table.iter().any(|row| row.0 == word.as_bytes())
+    for row in table {
+        if row.0 == word.as_bytes() {
+            return true;
+        }
+    }
+    false
 }
 
 /// Whether a word is one of those with a blank between two.
 pub fn lists(words: &str, word: &str) -> bool {
-    words.split(' ').any(|other| other == word)
+    for other in words.split(' ') {
+        if other == word {
+            return true;
+        }
+    }
+    false
 }
 
 /// Words of the profile, each with those that other firewalls and habit write for it.

@@ -3,12 +3,13 @@ use crate::shape_advice::{brace_advice, run_around};
 use crate::stop::Stop;
 use crate::token_advice::token_advice;
 use crate::word_advice::put_syntax_advice;
+use advice::put_known;
 use box_file::BoxFault;
 use fault_location::{
     CheckPlace, Fault, Sources, SyntaxPlace, check_place, faulty_line, lexical_place, syntax_place,
 };
 use fault_places::{heads_around, show, tokens_of};
-use nft_lexer::{LexError, LexFault, lex};
+use nft_lexer::LexFault;
 use nft_parser::TextFault;
 use rules_advice::{put_advice_on_box, put_advice_on_rules};
 use std::alloc::{AllocError, Global};
@@ -61,35 +62,29 @@ impl<'a> Explaining<'a> {
             return Ok(());
         };
         self.show(offset, lines)?;
-        match token_advice(text, fault, offset) {
-            Some(advice) => advice.put(self.alloc, lines),
-            None => Ok(()),
-        }
+        put_known(self.alloc, token_advice(text, fault, offset), lines)?;
+        Ok(())
     }
 
     /// Writes where the grammar doesn't allow a ruleset, and what to do.
     fn put_place_in_text(self, fault: TextFault, lines: &mut String) -> Result<(), AllocError> {
         let (alloc, text) = (self.alloc, self.sources.rules);
-        let tokens = match lex(alloc, text) {
-            Ok(tokens) => tokens,
-            Err(LexError::Refused(_)) => return Ok(()),
-            Err(LexError::Memory) => return Err(AllocError),
-        };
+        let tokens = tokens_of(alloc, text)?;
         let Some(place) = syntax_place(alloc, &tokens, fault)? else {
             return Ok(());
         };
         let offset = place.offset(&tokens);
         self.show(offset, lines)?;
         match place {
-            SyntaxPlace::Brace(brace) => match brace_advice(text, &tokens, brace) {
-                Some(advice) => advice.put(alloc, lines),
-                None => Ok(()),
-            },
+            SyntaxPlace::Brace(brace) => {
+                put_known(alloc, brace_advice(text, &tokens, brace), lines)?;
+            }
             SyntaxPlace::Part { at, part } => {
                 let run = run_around(text, offset);
-                put_syntax_advice(&Stop::new(alloc, run, &tokens, part, at, fault)?, lines)
+                put_syntax_advice(&Stop::new(alloc, run, &tokens, part, at)?, lines)?;
             }
         }
+        Ok(())
     }
 
     /// Writes where a fault of a ruleset as a whole is, what is around it, and what to do.

@@ -2,9 +2,9 @@
 use crate::stop::Stop;
 use advice::{
     Advice, COMMENT_MARK, Gap, NO_GAP, OF_IPTABLES, ONLY_IPV4, Place, filled, fixed, groups_advice,
-    left_out, lists, with_text, with_texts, with_words, write_this,
+    left_out, lists, put_known, with_text, with_texts, with_words, write_this,
 };
-use fault_places::{Span, position_at, shown};
+use fault_places::{Span, position_at, rest_from, shown};
 use nft_lexer::Token;
 use std::alloc::AllocError;
 use unread_parts::{OpenBrace, PartKind, open_braces};
@@ -26,31 +26,29 @@ pub fn brace_advice<'a>(
         "" => "the line",
         words => words,
     });
-    let line = Gap::Number(at.line as u64);
     let word = str::from_utf8(seen.text).unwrap_or("");
-    if !lists("table chain set map", word) {
-        let gaps = [of, line, NO_GAP, NO_GAP];
-        return Some(filled("`{` of {}, line {}, isn't closed before the end.", gaps));
-    }
+    let sentence = match lists("table chain set map", word) {
+        true => "`{` of {}, line {}, isn't closed before `{}` in line {}.",
+        false => "`{` of {}, line {}, isn't closed before the end.",
+    };
     let seen_line = Gap::Number(position_at(text, seen.start).line as u64);
-    Some(filled(
-        "`{` of {}, line {}, isn't closed before `{}` in line {}.",
-        [of, line, Gap::Text(word), seen_line],
-    ))
+    let line = Gap::Number(at.line as u64);
+    Some(filled(sentence, [of, line, Gap::Text(word), seen_line]))
 }
 
 /// What to do about the first word up to the place that is left out.
 pub fn left_out_advice<'a>(stop: &Stop<'a>) -> Option<Advice<'a>> {
-    let mut numbers = stop.allowed..stop.at.saturating_add(1);
-    let sentence = numbers.find_map(|number| {
+    for number in stop.allowed..stop.at.saturating_add(1) {
         let place = Place {
             before: stop.words.before(number, 1),
             is_in_rule: stop.is_in_rule(),
             is_behind_log: stop.words.has_before(number, "log"),
         };
-        left_out(stop.words.get(number), place)
-    });
-    Some(fixed(sentence?))
+        if let Some(sentence) = left_out(stop.words.get(number), place) {
+            return Some(fixed(sentence));
+        }
+    }
+    None
 }
 
 /// What to do about words that don't go together.
@@ -79,17 +77,16 @@ fn other_language(stop: &Stop<'_>) -> Option<&'static str> {
 /// What to do about what stands in a wrong place, or isn't read there: the word at the place, and two
 /// before it.
 fn misplaced(stop: &Stop<'_>) -> Option<&'static str> {
-    let first = stop.words.get(0);
-    let is_in_chain = first == "chain";
-    Some(match (stop.before(2), stop.before(1), stop.here()) {
+    let (first, second, before) = (stop.words.get(0), stop.before(2), stop.before(1));
+    let behind = [before, second, stop.before(3), stop.before(4)];
+    Some(match (second, before, stop.here()) {
         // An address of IPv6.
         _ if stop.run.split(':').count() > 2 => ONLY_IPV4,
         _ if stop.part.kind == PartKind::Tables && lists("chain set map", first) => {
             "It stands in no table: take out the `}` that ends the table too early."
         }
-        (_, _, "comment") if is_in_chain => "Write a comment at the end of its rule.",
-        (_, _, "policy")
-            if is_in_chain && !(1..5).any(|places| stop.before(places) == "priority") => {
+        (_, _, "comment") if first == "chain" => "Write a comment at the end of its rule.",
+        (_, _, "policy") if first == "chain" && !behind.contains(&"priority") => {
             "Write the policy right behind the `type` line."
         }
         ("dnat" | "snat", "to", ":") => {
@@ -160,26 +157,34 @@ fn is_name(word: &str) -> bool {
 /// Writes values that stand one behind the other in a rule, without braces or without commas, as
 /// `{ 80, 443 }`, if the grammar allows that; whether it does.
 pub fn put_list_advice(stop: &Stop<'_>, lines: &mut String) -> Result<bool, AllocError> {
+    let (part, before) = (stop.part, stop.token.saturating_sub(1));
     let is_list = is_value(stop.before(1)) && (stop.here() == "," || is_value(stop.here()));
-    if !stop.is_in_rule() || !is_list || open_braces(stop.start()) > 0 {
+    let start = part.tokens_before(stop.tokens, before);
+    if !stop.is_in_rule() || !is_list || open_braces(start) > 0 {
         return Ok(false);
     }
-    let values = values_from(stop)?.join(stop.alloc, ", ")?;
-    let list = ["{ ", values.as_str(), " }"].concat(stop.alloc)?;
-    let is_allowed = stop.allows_in_place(list.as_str())?;
-    if is_allowed {
-        write_this(list.as_str()).put(stop.alloc, lines)?;
+    let list = values_in_braces(stop)?;
+    if !part.kind.allows(stop.alloc, start, list.as_str())? {
+        return Ok(false);
     }
-    Ok(is_allowed)
+    put_known(stop.alloc, Some(write_this(list.as_str())), lines)
 }
 
-/// The values from the one before the place on, without the commas between them.
-fn values_from<'a>(stop: &Stop<'a>) -> Result<Vec<&'a str>, AllocError> {
-    (stop.at.saturating_sub(1)..stop.words.len())
-        .map(|number| stop.words.get(number))
-        .take_while(|word| *word == "," || is_value(word))
-        .filter(|word| *word != ",")
-        .collect(stop.alloc)
+/// The values from the one before the place on, with commas between them.
+fn values_in_braces(stop: &Stop<'_>) -> Result<String, AllocError> {
+    let (mut list, mut mark) = (String::new(stop.alloc), "{ ");
+    for number in stop.at.saturating_sub(1)..stop.words.len() {
+        match stop.words.get(number) {
+            "," => {}
+            word if is_value(word) => {
+                write!(list, "{mark}{word}")?;
+                mark = ", ";
+            }
+            _ => break,
+        }
+    }
+    list.push_str(" }")?;
+    Ok(list)
 }
 
 /// Whether a word is a number, an address or a string.
@@ -189,13 +194,14 @@ fn is_value(word: &str) -> bool {
 
 /// What is written around an offset, up to the next blanks.
 pub fn run_around(text: &[u8], offset: usize) -> &str {
-    let mut start = 0usize;
-    for run in text.split(|byte| matches!(*byte, b' ' | b'\t' | b'\n' | b'\r' | b';' | b',')) {
-        let end = start.saturating_add(run.len());
-        if offset <= end {
-            return str::from_utf8(run).unwrap_or("");
+    let mut start = 0;
+    for (end, byte) in text.iter().enumerate() {
+        if matches!(*byte, b' ' | b'\t' | b'\n' | b'\r' | b';' | b',') {
+            if offset <= end {
+                return shown(text, Span { start, end });
+            }
+            start = end.saturating_add(1);
         }
-        start = end.saturating_add(1);
     }
-    ""
+    shown(text, rest_from(text, start))
 }

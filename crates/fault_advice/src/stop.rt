@@ -1,8 +1,6 @@
 //! The place at which the grammar stops in a part of a ruleset, and what it allows there.
-use advice::Kind;
 use fault_places::Words;
-use nft_lexer::{Token, TokenKind};
-use nft_parser::TextFault;
+use nft_lexer::Token;
 use std::alloc::{AllocError, Global};
 use unread_parts::{Part, PartKind};
 
@@ -35,13 +33,8 @@ impl<'a> Stop<'a> {
         tokens: &'a [Token<'a>],
         part: Part,
         token: usize,
-        fault: TextFault,
     ) -> Result<Stop<'a>, AllocError> {
-        let refused = if fault == TextFault::Unsupported {
-            part.first_refused(alloc, tokens)?
-        } else {
-            token
-        };
+        let refused = part.first_refused(alloc, tokens)?.min(token);
         Ok(Stop {
             alloc,
             run,
@@ -49,8 +42,8 @@ impl<'a> Stop<'a> {
             part,
             token,
             words: Words::among(alloc, part.tokens_before(tokens, part.end))?,
-            at: words_among(part.tokens_before(tokens, token)),
-            allowed: words_among(part.tokens_before(tokens, refused.min(token))),
+            at: Words::among(alloc, part.tokens_before(tokens, token))?.len(),
+            allowed: Words::among(alloc, part.tokens_before(tokens, refused))?.len(),
         })
     }
 
@@ -68,68 +61,46 @@ impl<'a> Stop<'a> {
         self.part.kind == PartKind::Rule
     }
 
-    /// What stands before the place.
-    pub fn start(&self) -> &'a [Token<'a>] {
-        self.part.tokens_before(self.tokens, self.token)
-    }
-
     /// Whether the grammar allows a word, with another one behind it, at the place: in its part, or,
     /// where that begins here, in its chain.
     pub fn allows(&self, word: &str, next: &str) -> Result<bool, AllocError> {
-        if self.is_allowed(self.part.kind, self.start(), word, next)? {
+        let text = format!(in self.alloc; " {word} {next}")?;
+        let start = self.part.tokens_before(self.tokens, self.token);
+        if self.is_allowed(self.part.kind, start, text.as_str())? {
             return Ok(true);
         }
         match self.part.item {
             Some(item) if self.is_in_rule() && self.at == 0 => {
                 let chain = self.tokens.get(item..self.token).unwrap_or(&[]);
-                self.is_allowed(PartKind::Item, chain, word, next)
+                self.is_allowed(PartKind::Item, chain, text.as_str())
             }
             _ => Ok(false),
         }
     }
 
-    /// Whether the grammar allows a text in place of the word before the place.
-    pub fn allows_in_place(&self, text: &str) -> Result<bool, AllocError> {
-        let before = self.start().len().saturating_sub(1);
-        let start = self.start().get(..before).unwrap_or(&[]);
-        self.is_allowed(self.part.kind, start, text, "")
-    }
-
-    /// Whether some ending completes the start of a part with two words behind it.
+    /// Whether some ending completes the start of a part with a text behind it.
     fn is_allowed(
         &self,
         kind: PartKind,
         start: &[Token<'a>],
-        word: &str,
-        next: &str,
+        text: &str,
     ) -> Result<bool, AllocError> {
-        let text = format!(in self.alloc; " {word} {next}")?;
-        Ok(start.len() <= MOST_TOKENS && kind.allows(self.alloc, start, text.as_str())?)
+        Ok(start.len() <= MOST_TOKENS && kind.allows(self.alloc, start, text)?)
     }
 
-    /// The words of a kind that the grammar allows at the place, with another one behind them.
-    pub fn allowed_of(&self, kind: Kind, next: &str) -> Result<Vec<&'static str>, AllocError> {
+    /// Those of some words that the grammar allows at the place, with another one behind them.
+    pub fn allowed_of(
+        &self,
+        words: &[&'static str],
+        next: &str,
+    ) -> Result<Vec<&'static str>, AllocError> {
         let mut allowed = Vec::new(self.alloc);
-        for word in &kind.words(self.alloc)? {
+        for word in words {
             if self.allows(word, next)? {
                 allowed.push(*word)?;
             }
         }
         Ok(allowed)
-    }
-
-    /// The first of some words, with a blank between two, that the grammar allows in the same way.
-    pub fn first_allowed(
-        &self,
-        words: &'static str,
-        next: &str,
-    ) -> Result<Option<&'static str>, AllocError> {
-        for word in words.split(' ') {
-            if self.allows(word, next)? {
-                return Ok(Some(word));
-            }
-        }
-        Ok(None)
     }
 
     /// Whether there is a word so many places before the place without which the part can be read.
@@ -147,12 +118,4 @@ impl<'a> Stop<'a> {
         }
         part.kind.reads_with(alloc, &without, "")
     }
-}
-
-/// How many tokens are no newlines.
-fn words_among(tokens: &[Token<'_>]) -> usize {
-    let words = tokens.iter();
-    words
-        .filter(|token| !matches!(token.kind, TokenKind::NewLine))
-        .count()
 }

@@ -2,8 +2,8 @@
 use crate::around::Around;
 use crate::types::{ADDRESS, MARK, SERVICE, Types, greatest, values_of};
 use advice::{
-    Advice, DID_YOU_MEAN_ONE_OF, Gap, Kind, NO_GAP, filled, fixed, greatest_is, has_constant,
-    lists, nearest, no_value, one_of, otherwise, with_texts, write_this,
+    Advice, DID_YOU_MEAN_ONE_OF, Gap, NO_GAP, constants, filled, fixed, greatest_is, has_constant,
+    lists, names, nearest, no_value, one_of, otherwise, with_texts, write_this,
 };
 use fault_places::Words;
 use nft_tree::{ComparedType, Item, ValueType};
@@ -197,7 +197,7 @@ fn unread_words<'a>(
     of: ComparedType,
 ) -> Result<Vec<(&'a str, &'static str)>, AllocError> {
     let (mut unread, mut others) = (Vec::new(alloc), Vec::new(alloc));
-    let known = Kind::Constants(of).words(alloc)?;
+    let known = names(alloc, constants(of))?;
     if known.is_empty() {
         return Ok(unread);
     }

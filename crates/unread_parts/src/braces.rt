@@ -22,14 +22,16 @@ fn open_behind(token: &Token<'_>, open: usize) -> Option<usize> {
 
 /// How many braces are open behind some tokens.
 pub fn open_braces(tokens: &[Token<'_>]) -> usize {
-    let mut tokens = tokens.iter();
-    tokens.fold(0, |open, token| open_behind(token, open).unwrap_or(0))
+    let mut open = 0;
+    for token in tokens {
+        open = open_behind(token, open).unwrap_or(0);
+    }
+    open
 }
 
 /// Whether each closing brace has an opening one, and none stays open.
 pub fn braces_match(tokens: &[Token<'_>]) -> bool {
-    let mut tokens = tokens.iter();
-    tokens.try_fold(0, |open, token| open_behind(token, open)) == Some(0)
+    open_braces(tokens) == 0 && closing_brace(tokens, 0, false) == tokens.len()
 }
 
 /// A brace that is left open, by its token.
@@ -51,19 +53,20 @@ pub fn unclosed_brace(
 ) -> Result<Option<OpenBrace>, AllocError> {
     let (mut open, mut seen) = (Vec::new(alloc), 0);
     for (at, token) in tokens.iter().enumerate() {
+        if matches!(token.kind, TokenKind::NewLine) {
+            continue;
+        }
+        seen = at;
+        if begins_outside(tokens, at, open.len()) {
+            break;
+        }
         match token.kind {
-            TokenKind::NewLine => continue,
-            _ if begins_outside(tokens, at, open.len()) => {
-                seen = at;
-                break;
-            }
             TokenKind::Punctuator(Punctuator::OpenBrace) => open.push(at)?,
             TokenKind::Punctuator(Punctuator::CloseBrace) => {
                 let _ = open.pop();
             }
             _ => {}
         }
-        seen = at;
     }
     Ok(open.pop().map(|brace| OpenBrace { brace, seen }))
 }
@@ -80,15 +83,25 @@ fn begins_outside(tokens: &[Token<'_>], at: usize, depth: usize) -> bool {
 
 /// The first opening brace of the line from a token on.
 pub(crate) fn brace_of_line(tokens: &[Token<'_>], from: usize) -> Option<usize> {
-    let mut line = (from..tokens.len()).take_while(|at| !is_rule_end(tokens, *at));
-    line.find(|at| is(tokens, *at, b"{"))
+    for at in from..tokens.len() {
+        if is(tokens, at, b"{") {
+            return Some(at);
+        }
+        if is_rule_end(tokens, at) {
+            break;
+        }
+    }
+    None
 }
 
 /// The first token from one on that is no newline, before the end.
 pub(crate) fn after_newlines(tokens: &[Token<'_>], from: usize, end: usize) -> usize {
-    (from..end)
-        .find(|at| !is(tokens, *at, b"\n"))
-        .unwrap_or(end)
+    for at in from..end {
+        if !is(tokens, at, b"\n") {
+            return at;
+        }
+    }
+    end
 }
 
 /// The brace that closes the one before a token; the end of the line at it, if that ends before.

@@ -46,14 +46,19 @@ impl PartKind {
         matches!(self, PartKind::Element | PartKind::Pair)
     }
 
-    /// Whether some tokens with those of a text are one such part, with what ends it.
-    pub(crate) fn reads(
+    /// Whether a part is read with this text behind it.
+    ///
+    /// # Errors
+    /// `AllocError` for want of memory.
+    pub fn reads_with(
         self,
         alloc: Global,
-        tokens: &[Token<'_>],
-        behind: &str,
+        part: &[Token<'_>],
+        text: &str,
     ) -> Result<bool, AllocError> {
-        let Some(tokens) = joined(alloc, tokens, behind)? else {
+        let brace = if self.is_in_list() { "}" } else { "" };
+        let behind = format!(in alloc; "{text}{brace}\n")?;
+        let Some(tokens) = joined(alloc, part, behind.as_str())? else {
             return Ok(false);
         };
         let end = match self {
@@ -63,8 +68,10 @@ impl PartKind {
             PartKind::Element => end_of::<Elements>(alloc, &tokens, 0)?,
             PartKind::Pair => end_of::<Pairs>(alloc, &tokens, 0)?,
         };
-        let brace = self.is_in_list() as usize;
-        Ok(end.is_some_and(|end| tokens.len() <= skip_ends(&tokens, end.saturating_add(brace))))
+        match end {
+            Some(end) => Ok(tokens.len() <= skip_ends(&tokens, end.saturating_add(brace.len()))),
+            None => Ok(false),
+        }
     }
 }
 

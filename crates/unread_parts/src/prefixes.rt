@@ -27,28 +27,10 @@ const ENDINGS: &str =
      | input priority 0| priority 0| = { 1 }| mark : mark| {\n}| x {\n}| {\ntype mark\n}\
      | {\ntype mark : mark\n}";
 
-/// So many tokens of a part are tried one by one; what is behind them is bisected.
-const MAX_LINEAR: usize = 256;
-
 /// How many more tokens are tried behind a start that no ending completes.
 const LOOKAHEAD: usize = 6;
 
 impl PartKind {
-    /// Whether a part is read with this text behind it.
-    ///
-    /// # Errors
-    /// `AllocError` for want of memory.
-    pub fn reads_with(
-        self,
-        alloc: Global,
-        part: &[Token<'_>],
-        text: &str,
-    ) -> Result<bool, AllocError> {
-        let ending = if self.is_in_list() { "}\n" } else { "\n" };
-        let behind = format!(in alloc; "{text}{ending}")?;
-        self.reads(alloc, part, behind.as_str())
-    }
-
     /// Whether some ending completes the start of a part with a text behind it.
     ///
     /// # Errors
@@ -65,7 +47,7 @@ impl PartKind {
         }
     }
 
-    /// What completes the start of a part.
+    /// What completes the start of a part: the first of the endings that does, with what closes it.
     pub(crate) fn completion(
         self,
         alloc: Global,
@@ -75,25 +57,11 @@ impl PartKind {
         let has_types = self == PartKind::Item && !is(start, 0, b"chain");
         for types in missing_types(has_types) {
             let closing = closing(alloc, open, types)?;
-            let found = self.completion_before(alloc, start, closing.as_str())?;
-            if found.is_some() {
-                return Ok(found);
-            }
-        }
-        Ok(None)
-    }
-
-    /// The first of the endings that completes the start of a part before a text, with that.
-    fn completion_before(
-        self,
-        alloc: Global,
-        start: &[Token<'_>],
-        closing: &str,
-    ) -> Result<Option<String>, AllocError> {
-        for ending in ENDINGS.split('|') {
-            let behind = format!(in alloc; "{ending}{closing}")?;
-            if self.reads_with(alloc, start, behind.as_str())? {
-                return Ok(Some(behind));
+            for ending in ENDINGS.split('|') {
+                let behind = format!(in alloc; "{ending}{}", closing.as_str())?;
+                if self.reads_with(alloc, start, behind.as_str())? {
+                    return Ok(Some(behind));
+                }
             }
         }
         Ok(None)
@@ -119,50 +87,30 @@ impl Part {
     /// # Errors
     /// `AllocError` for want of memory.
     pub fn first_refused(self, alloc: Global, tokens: &[Token<'_>]) -> Result<usize, AllocError> {
-        let near = self.first.saturating_add(MAX_LINEAR);
-        let allowed = if near < self.end && self.allows_up_to(alloc, tokens, near)? {
-            self.bisect(alloc, tokens, near)?
-        } else {
-            self.last_allowed(alloc, tokens)?
-        };
-        Ok(after_newlines(tokens, allowed, self.end))
-    }
-
-    /// The end of the longest start that some ending completes.
-    fn last_allowed(self, alloc: Global, tokens: &[Token<'_>]) -> Result<usize, AllocError> {
-        let mut longest = self.first;
-        for at in self.first..self.end {
-            if longest.saturating_add(LOOKAHEAD) <= at {
+        let mut allowed = self.leap(alloc, tokens)?;
+        for at in allowed..self.end {
+            if allowed.saturating_add(LOOKAHEAD) <= at {
                 break;
             }
             let end = at.saturating_add(1);
             if self.allows_up_to(alloc, tokens, end)? {
-                longest = end;
+                allowed = end;
             }
         }
-        Ok(longest)
+        Ok(after_newlines(tokens, allowed, self.end))
     }
 
-    /// The same by bisection, where some ending completes the start up to a token.
-    fn bisect(
-        self,
-        alloc: Global,
-        tokens: &[Token<'_>],
-        allowed: usize,
-    ) -> Result<usize, AllocError> {
-        let (mut good, mut bad) = (allowed, self.end.saturating_add(1));
+    /// The end of a start that some ending completes, by leaps each half as long as the one before.
+    fn leap(self, alloc: Global, tokens: &[Token<'_>]) -> Result<usize, AllocError> {
+        let (mut allowed, mut leap) = (self.first, self.end.saturating_sub(self.first));
         for _ in 0..usize::BITS {
-            let middle = good.saturating_add(bad.saturating_sub(good) / 2);
-            if middle == good {
-                break;
+            let end = allowed.saturating_add(leap);
+            if leap > 0 && end <= self.end && self.allows_up_to(alloc, tokens, end)? {
+                allowed = end;
             }
-            if self.allows_up_to(alloc, tokens, middle)? {
-                good = middle;
-            } else {
-                bad = middle;
-            }
+            leap /= 2;
         }
-        Ok(good)
+        Ok(allowed)
     }
 
     /// Whether some ending completes the part up to a token.

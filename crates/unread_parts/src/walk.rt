@@ -178,13 +178,13 @@ impl<'a, 't> Walk<'a, 't> {
         } else {
             PartKind::Element
         };
-        let tokens = self.tokens;
-        let list = tokens.get(start..end).unwrap_or(&[]);
         let mut from = start;
-        for element in list.split(|token| token.text == b",".as_slice()) {
-            let behind = from.saturating_add(element.len());
-            let first = after_newlines(tokens, from, behind);
-            let element = tokens.get(first..behind).unwrap_or(&[]);
+        for behind in start..end.saturating_add(1) {
+            if behind < end && !self.is(behind, b",") {
+                continue;
+            }
+            let first = after_newlines(self.tokens, from, behind);
+            let element = self.tokens.get(first..behind).unwrap_or(&[]);
             from = behind.saturating_add(1);
             if !element.is_empty() && !kind.reads_with(self.alloc, element, "")? {
                 self.add(kind, first, from.min(end))?;
