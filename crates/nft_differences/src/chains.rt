@@ -34,11 +34,8 @@ impl BaseChain {
     /// Whether it filters at just the priority at which Linux translates destinations or sources
     /// (linux/netfilter_ipv4.h).
     fn is_at_step(self) -> bool {
-        match self.hook {
-            Hook::Prerouting => !self.is_nat && self.priority == -100,
-            Hook::Postrouting => !self.is_nat && self.priority == 100,
-            Hook::Input | Hook::Forward | Hook::Output => false,
-        }
+        let step = (self.hook, self.priority);
+        !self.is_nat && matches!(step, (Hook::Prerouting, -100) | (Hook::Postrouting, 100))
     }
 }
 
@@ -62,47 +59,48 @@ fn is_misplaced_name(head: &Head) -> bool {
 }
 
 impl Findings<'_> {
-    /// Adds the warnings about the head of a chain.
+    /// Adds the warnings about the head of a chain, if it has one.
     pub(crate) fn judge_head(
         &mut self,
         chain: &Chain,
-        head: &Head,
         range: TokenRange,
     ) -> Result<(), AllocError> {
-        let base = BaseChain {
-            is_nat: matches!(head.kind, ChainKind::Nat),
-            hook: head.hook,
-            priority: head.priority.number(),
-            place: self.tokens.find(range, b"priority").unwrap_or(range.first),
+        let Some(head) = &chain.head else {
+            return Ok(());
         };
+        let place = self.tokens.find(range, b"priority").unwrap_or(range.first);
+        let priority = head.priority.number();
         if is_misplaced_name(head) {
-            self.add(base.place, warning::PRIORITY_NAME);
+            self.add(place, warning::PRIORITY_NAME);
         }
-        if is_early(head) && base.priority == LOOKUP {
-            self.add(base.place, warning::EARLY_PRIORITY);
+        if is_early(head) && priority == LOOKUP {
+            self.add(place, warning::EARLY_PRIORITY);
         }
         let does_something = !chain.rules.is_empty() || matches!(head.policy, Some(Policy::Drop));
         if matches!(head.hook, Hook::Output) && does_something {
             self.add_at_word(range, b"type", warning::OUTPUT_CHAIN);
         }
-        self.chains.push(base)?;
+        self.chains.push(BaseChain {
+            is_nat: matches!(head.kind, ChainKind::Nat),
+            hook: head.hook,
+            priority,
+            place,
+        })?;
         Ok(())
     }
 
     /// Adds the warnings about base chains that have one place together.
-    pub(crate) fn judge_order(&mut self) {
-        for number in 0..self.chains.len() {
-            let Some(chain) = self.chains.get(number).copied() else {
-                return;
-            };
-            let mut earlier = self.chains.iter().take(number);
+    pub(crate) fn judge_order(&mut self) -> Result<(), AllocError> {
+        let chains = self.chains.clone()?;
+        for (number, chain) in chains.iter().enumerate() {
+            let (mut earlier, mut all) = (chains.iter().take(number), chains.iter());
             if earlier.any(|other| chain.shares_place(*other)) {
                 self.add(chain.place, warning::SAME_PRIORITY);
             }
-            let mut all = self.chains.iter();
             if chain.is_at_step() && all.any(|other| other.is_nat && chain.shares_hook(*other)) {
                 self.add(chain.place, warning::NAT_PRIORITY);
             }
         }
+        Ok(())
     }
 }

@@ -1,6 +1,5 @@
 //! The tables, chains, sets and maps of a ruleset, each beside its tokens.
 use crate::findings::Findings;
-use crate::rules::Walk;
 use crate::warning;
 use nft_tree::{Chain, Item, Ruleset, Table};
 use node_spans::{TokenRange, items, rules, tables};
@@ -14,8 +13,7 @@ impl Findings<'_> {
         for (table, place) in ruleset.tables.iter().zip(&places) {
             self.judge_table(table, *place)?;
         }
-        self.judge_order();
-        Ok(())
+        self.judge_order()
     }
 
     fn judge_table(&mut self, table: &Table, range: TokenRange) -> Result<(), AllocError> {
@@ -40,9 +38,7 @@ impl Findings<'_> {
         chain: &Chain,
         range: TokenRange,
     ) -> Result<(), AllocError> {
-        if let Some(head) = &chain.head {
-            self.judge_head(chain, head, range)?;
-        }
+        self.judge_head(chain, range)?;
         let places = rules(self.alloc, self.tokens.all, range)?.unwrap_or(Vec::new(self.alloc));
         let rules_start = match places.first() {
             Some(rule) => rule.first,
@@ -50,7 +46,7 @@ impl Findings<'_> {
         };
         self.judge_notes(range, rules_start);
         for (rule, place) in chain.rules.iter().zip(&places) {
-            Walk::new(self, table, chain, *place).judge(rule)?;
+            self.judge_rule(table, chain, rule, *place)?;
         }
         self.judge_braces(range, true);
         Ok(())

@@ -1,8 +1,9 @@
-//! The warnings of a text, in its order.
+//! The warnings of a text, in its order, and where its rules are.
 use crate::chains::BaseChain;
-use crate::tokens::{Tokens, lexed};
+use crate::tokens::Tokens;
 use crate::warning::Warning;
-use fault_places::position_at;
+use fault_places::{position_at, tokens_of};
+use nft_lexer::{LexError, Token, lex};
 use nft_rulesets::ruleset;
 use node_spans::TokenRange;
 use std::alloc::{AllocError, Global};
@@ -10,26 +11,42 @@ use std::alloc::{AllocError, Global};
 /// The most warnings that are written.
 const MOST: usize = 1000;
 
-/// A warning, the offset at which it is, and its number among those found.
+/// A warning, and the offset at which it is.
 #[derive(Clone, Copy)]
 struct Finding {
     offset: usize,
-    number: usize,
     warning: Warning,
 }
 
-/// The warnings of a text.
+/// What is found in a text.
 #[derive(Drop)]
 pub(crate) struct Findings<'a> {
     pub alloc: Global,
     pub tokens: Tokens<'a>,
     /// The base chains so far.
     pub chains: Vec<BaseChain>,
+    /// The offsets at which the rules so far begin.
+    pub rules: Vec<usize>,
     /// With room for the most from the start.
     found: Vec<Finding>,
 }
 
-impl Findings<'_> {
+impl<'a> Findings<'a> {
+    /// What is found in the text of a ruleset, which has these tokens.
+    fn of(alloc: Global, text: &'a [u8], all: &'a [Token<'a>]) -> Result<Findings<'a>, AllocError> {
+        let mut findings = Findings {
+            alloc,
+            tokens: Tokens { text, all },
+            chains: Vec::new(alloc),
+            rules: Vec::new(alloc),
+            found: Vec::with_capacity(alloc, MOST)?,
+        };
+        if let Some(ruleset) = ruleset(alloc, all)? {
+            findings.judge(&ruleset)?;
+        }
+        Ok(findings)
+    }
+
     /// Adds a warning at a token.
     pub(crate) fn add(&mut self, index: usize, warning: Warning) {
         self.add_at(self.tokens.offset(index), warning);
@@ -37,13 +54,8 @@ impl Findings<'_> {
 
     /// Adds a warning at an offset.
     pub(crate) fn add_at(&mut self, offset: usize, warning: Warning) {
-        let number = self.found.len();
-        if number < self.found.capacity() {
-            self.found.push_reserved(Finding {
-                offset,
-                number,
-                warning,
-            });
+        if self.found.len() < self.found.capacity() {
+            self.found.push_reserved(Finding { offset, warning });
         }
     }
 
@@ -56,15 +68,12 @@ impl Findings<'_> {
 
     /// Writes one line for each warning, in the order of the text.
     fn write_to(&mut self, lines: &mut String, path: &str) -> Result<(), AllocError> {
-        self.found
-            .sort_unstable_by_key(|finding| (finding.offset, finding.number));
+        self.found.sort_by_key(|finding| finding.offset)?;
         let text = self.tokens.text;
         for finding in &self.found {
-            if finding.offset <= text.len() {
-                let place = position_at(text, finding.offset);
-                write!(lines, "{path}:{}:{}: warning: ", place.line, place.column)?;
-                writeln!(lines, "{}", finding.warning)?;
-            }
+            let place = position_at(text, finding.offset.min(text.len()));
+            write!(lines, "{path}:{}:{}: warning: ", place.line, place.column)?;
+            writeln!(lines, "{}", finding.warning)?;
         }
         Ok(())
     }
@@ -78,17 +87,21 @@ impl Findings<'_> {
 /// `AllocError` for want of memory.
 pub fn warnings(alloc: Global, path: &str, text: &[u8]) -> Result<String, AllocError> {
     let mut lines = String::new(alloc);
-    if let Some(all) = lexed(alloc, text)?
-        && let Some(ruleset) = ruleset(alloc, &all)?
-    {
-        let mut findings = Findings {
-            alloc,
-            tokens: Tokens { text, all: &all },
-            chains: Vec::new(alloc),
-            found: Vec::with_capacity(alloc, MOST)?,
-        };
-        findings.judge(&ruleset)?;
-        findings.write_to(&mut lines, path)?;
-    }
+    let tokens = match lex(alloc, text) {
+        Ok(tokens) => tokens,
+        Err(LexError::Refused(_)) => return Ok(lines),
+        Err(LexError::Memory) => return Err(AllocError),
+    };
+    Findings::of(alloc, text, &tokens)?.write_to(&mut lines, path)?;
     Ok(lines)
+}
+
+/// The offset at which each rule of the text of an accepted ruleset begins, in the order of the text.
+///
+/// # Errors
+/// `AllocError` for want of memory.
+pub fn rule_offsets(alloc: Global, text: &[u8]) -> Result<Vec<usize>, AllocError> {
+    let tokens = tokens_of(alloc, text)?;
+    let findings = Findings::of(alloc, text, &tokens)?;
+    Ok(findings.rules)
 }

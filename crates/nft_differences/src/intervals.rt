@@ -1,22 +1,12 @@
 //! The numbers that the elements of a set or a map cover.
 use nft_tree::{ComparedType, Value, ValueRange, ValueType};
 
-/// The numbers that an element covers, both ends included, and its place among the elements.
+/// The numbers that an element covers, both ends included, and its first token.
 #[derive(Clone, Copy)]
 pub(crate) struct Interval {
     low: u128,
     high: u128,
-    element: usize,
-}
-
-/// How elements cover numbers together.
-#[derive(Clone, Copy)]
-pub(crate) struct Coverage {
-    /// How many intervals there are, where equal ones count once; and where they are merged, those
-    /// that overlap or touch.
-    pub count: usize,
-    /// An element that overlaps another one without being equal to it.
-    pub overlapping: Option<usize>,
+    place: usize,
 }
 
 /// The number of a literal. None for the name of an interface where its index is meant.
@@ -59,7 +49,7 @@ pub(crate) fn is_interval(range: &ValueRange) -> bool {
 
 impl Interval {
     /// The interval of an element's key.
-    pub(crate) fn of(range: &ValueRange, kind: ComparedType, element: usize) -> Option<Interval> {
+    pub(crate) fn of(range: &ValueRange, kind: ComparedType, place: usize) -> Option<Interval> {
         let (low, high) = match range {
             ValueRange::One(value) => match wildcard_stem(value) {
                 Some(stem) => (name_number(stem, 0), name_number(stem, 0xff)),
@@ -71,35 +61,32 @@ impl Interval {
                 (u128::from(*address & !hosts), u128::from(*address | hosts))
             }
         };
-        Some(Interval { low, high, element })
+        Some(Interval { low, high, place })
     }
 }
 
-/// How intervals cover numbers together; `is_merged` says whether nft merges them.
-pub(crate) fn cover(intervals: &mut [Interval], is_merged: bool) -> Coverage {
-    intervals.sort_unstable_by_key(|interval| (interval.low, interval.high, interval.element));
-    let mut covered = Coverage {
-        count: intervals.len().min(1),
-        overlapping: None,
-    };
+/// How many intervals there are, where equal ones count once, and where they are merged those that
+/// overlap or touch; and the place of an element that overlaps another one without being equal.
+pub(crate) fn cover(intervals: &mut [Interval], is_merged: bool) -> (usize, Option<usize>) {
+    intervals.sort_unstable_by_key(|interval| (interval.low, interval.high, interval.place));
     let Some((first, others)) = intervals.split_first() else {
-        return covered;
+        return (0, None);
     };
-    let mut before = *first;
+    let (mut count, mut overlapping, mut before) = (1usize, None, *first);
     for interval in others {
         if interval.low == before.low && interval.high == before.high {
             continue;
         }
         if interval.low <= before.high {
-            covered.overlapping = Some(interval.element.max(before.element));
+            overlapping = Some(interval.place.max(before.place));
         }
         if !is_merged || interval.low.saturating_sub(before.high) > 1 {
-            covered.count = covered.count.saturating_add(1);
+            count = count.saturating_add(1);
         }
         before = Interval {
             high: interval.high.max(before.high),
             ..*interval
         };
     }
-    covered
+    (count, overlapping)
 }

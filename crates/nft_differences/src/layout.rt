@@ -11,9 +11,6 @@ const MOST_OF_COMMENT: usize = 130;
 
 const MOST_OF_NAME: usize = 255;
 
-/// The most hexadecimal digits on either side of a colon that nft takes together.
-const MOST_OF_CLASS: usize = 4;
-
 impl Findings<'_> {
     /// Adds the warnings about single tokens, and about newlines in lists.
     pub(crate) fn judge_tokens(&mut self) {
@@ -49,7 +46,7 @@ impl Findings<'_> {
             TokenKind::String if tokens.is(index, b"prefix") && there.contains(&b'$') => {
                 self.add(next, warning::PREFIX_VARIABLE);
             }
-            _ if !tokens.is_tight(next) => {}
+            _ if !tokens.gap(next).is_empty() => {}
             _ if tokens.is(index, b".") && continues_word(there) => {
                 self.add(index, warning::TIGHT_DOT);
             }
@@ -75,16 +72,14 @@ impl Findings<'_> {
             self.add(name, warning::LONG_NAME);
         }
         let close = range.end.saturating_sub(1);
-        let is_ended = match self.tokens.bytes(close.saturating_sub(1)) {
-            b"{" | b"\n" | b";" => true,
-            b"}" | b"auto-merge" => !is_chain,
-            _ => false,
-        };
-        if !is_ended {
-            self.add(close, warning::MISSING_END);
+        match self.tokens.bytes(close.saturating_sub(1)) {
+            b"{" | b"\n" | b";" => {}
+            b"}" | b"auto-merge" if !is_chain => {}
+            _ => self.add(close, warning::MISSING_END),
         }
-        if !matches!(self.tokens.bytes(range.end), b"\n" | b";" | b"") {
-            self.add(range.end, warning::MISSING_END);
+        match self.tokens.bytes(range.end) {
+            b"\n" | b";" | b"" => {}
+            _ => self.add(range.end, warning::MISSING_END),
         }
     }
 }
@@ -115,21 +110,25 @@ fn may_be_in_list(tokens: Tokens<'_>, newline: usize) -> bool {
     if tokens.is(before, b"\n") {
         return true;
     }
-    let mut behind = newline.saturating_add(1)..tokens.all.len();
-    let next = behind.find(|index| !tokens.ends_comment_line(*index));
-    match tokens.bytes(next.unwrap_or(newline)) {
-        b"\n" => false,
-        b"}" | b"," => true,
-        _ => matches!(tokens.bytes(before), b"{" | b","),
+    for index in newline.saturating_add(1)..tokens.all.len() {
+        match tokens.bytes(index) {
+            // Behind a comment on a line of its own: none for nft.
+            b"\n" if tokens.gap(index).contains(&b'#') => {}
+            b"\n" => return false,
+            b"}" | b"," => return true,
+            _ => return matches!(tokens.bytes(before), b"{" | b","),
+        }
     }
+    false
 }
 
-/// Whether a colon and the numbers beside it are one word for nft.
+/// Whether a colon and the numbers beside it, of at most four digits each, are one word for nft.
 fn is_class(tokens: Tokens<'_>, colon: usize) -> bool {
     let before = tokens.bytes(colon.saturating_sub(1));
     let behind = tokens.bytes(colon.saturating_add(1));
     let longest = before.len().max(behind.len());
-    tokens.is_tight(colon) && is_decimal(before) && is_decimal(behind) && longest <= MOST_OF_CLASS
+    let is_tight = tokens.gap(colon).is_empty();
+    is_tight && is_decimal(before) && is_decimal(behind) && longest <= 4
 }
 
 fn is_decimal(bytes: &[u8]) -> bool {

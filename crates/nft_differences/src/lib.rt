@@ -11,7 +11,6 @@ mod findings;
 mod intervals;
 mod layout;
 mod names;
-mod places;
 mod ports;
 mod protocols;
 mod rules;
@@ -19,5 +18,4 @@ mod sets;
 mod tokens;
 mod warning;
 
-pub use findings::warnings;
-pub use places::rule_offsets;
+pub use findings::{rule_offsets, warnings};

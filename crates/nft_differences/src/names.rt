@@ -23,17 +23,12 @@ const FAMILY_WORDS: &str = "arp dnat ecn ether ip ip6 reset snat vlan";
 
 /// Whether a table, a chain, a set or a map can't have this name.
 pub(crate) fn is_reserved(name: &[u8]) -> bool {
-    is_reserved_interface(name) || has_word(FAMILY_WORDS, name)
+    is_reserved_interface(name, false) || has_word(FAMILY_WORDS, name)
 }
 
-/// Whether an interface can't be named by this word without quotes in a match.
-pub(crate) fn is_reserved_interface(name: &[u8]) -> bool {
-    is_reserved_element(name) || has_word(PROTOCOL_WORDS, name)
-}
-
-/// Whether an interface can't be named by this word without quotes in a list.
-pub(crate) fn is_reserved_element(name: &[u8]) -> bool {
-    has_word(WORDS, name)
+/// Whether an interface can't be named by this word without quotes, in a list or in a match.
+pub(crate) fn is_reserved_interface(name: &[u8], in_list: bool) -> bool {
+    has_word(WORDS, name) || (!in_list && has_word(PROTOCOL_WORDS, name))
 }
 
 /// Whether a name is one of some words.

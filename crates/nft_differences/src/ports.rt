@@ -1,9 +1,10 @@
 //! Matches that leave packets of TCP and UDP alone, whose ports `th` reads here. Linux reads the
 //! bytes of any protocol there.
 use crate::intervals::number_of;
-use crate::protocols::{TCP, UDP};
+use crate::protocols::{TCP, UDP, transport_of};
 use nft_tree::{
-    BitField, Element, Item, Key, Match, Operator, Selector, SetRef, Stmt, Table, Value, ValueRange,
+    BitField, ComparedType, Element, Item, Key, Match, Operator, Selector, SetRef, Stmt, Table,
+    Value, ValueRange, ValueType,
 };
 use std::slice;
 
@@ -18,52 +19,62 @@ pub(crate) fn selectors_of(test: &Match) -> &[Selector] {
     }
 }
 
-/// Whether only packets of TCP and UDP have what a selector reads.
+/// Whether only packets of TCP or UDP have what a selector reads.
 pub(crate) fn is_of_ports(selector: Selector) -> bool {
-    matches!(
-        selector,
-        Selector::TcpSource
-            | Selector::TcpDestination
-            | Selector::TcpFlags
-            | Selector::UdpSource
-            | Selector::UdpDestination
-    )
+    matches!(transport_of(selector), Some(TCP | UDP))
 }
 
-/// Whether the matches that stand first leave packets of TCP and UDP alone.
-pub(crate) fn leave_ports(table: &Table, statements: &[Stmt]) -> bool {
-    for statement in statements {
+/// The number of the statement from which on all packets have ports: of the matches that stand
+/// beside one that leaves only packets of TCP and UDP, the first.
+pub(crate) fn ports_start(table: &Table, statements: &[Stmt]) -> usize {
+    let mut start = 0;
+    for (number, statement) in statements.iter().enumerate() {
         match statement {
-            Stmt::Match(test) if leaves_ports(table, test) => return true,
+            Stmt::Match(test) if leaves_ports(table, test) => return start,
             Stmt::Match(_) => {}
-            _ => return false,
+            _ => start = number.saturating_add(1),
+        }
+    }
+    statements.len()
+}
+
+fn leaves_ports(table: &Table, test: &Match) -> bool {
+    for (part, selector) in selectors_of(test).iter().enumerate() {
+        let is_protocol = matches!(selector, Selector::IpProtocol | Selector::MetaProtocol);
+        let is_left = match test {
+            Match::Compare(_, Operator::Equal, ValueRange::One(value)) if is_protocol => {
+                is_ported(value)
+            }
+            Match::In(_, set) if is_protocol => are_ported(elements_of(table, set), part),
+            _ => is_of_ports(*selector),
+        };
+        if is_left {
+            return true;
         }
     }
     false
 }
 
-fn leaves_ports(table: &Table, test: &Match) -> bool {
-    let mut selectors = selectors_of(test).iter();
-    selectors.any(|selector| is_of_ports(*selector))
-        || match test {
-            Match::Compare(selector, Operator::Equal, ValueRange::One(value)) => {
-                is_ported(*selector, value)
-            }
-            Match::In(selectors, set) => some_are_ported(table, selectors, set),
-            _ => false,
+/// Whether the protocol in this part of each element's key is TCP or UDP.
+fn are_ported(elements: &[Element], part: usize) -> bool {
+    for element in elements {
+        let values = match &element.key {
+            Key::Single(ValueRange::One(value)) => slice::from_ref(value),
+            Key::Single(_) => &[],
+            Key::Joined(values) => values.as_slice(),
+        };
+        match values.get(part) {
+            Some(value) if is_ported(value) => {}
+            _ => return false,
         }
+    }
+    true
 }
 
-/// Whether one of joined selectors reads the protocol, which is TCP or UDP in each element.
-fn some_are_ported(table: &Table, selectors: &[Selector], set: &SetRef) -> bool {
-    let elements = elements_of(table, set);
-    let mut parts = selectors.iter().enumerate();
-    parts.any(|(part, selector)| {
-        reads_protocol(*selector)
-            && elements.iter().all(|element| {
-                value_in(element, part).is_some_and(|value| is_ported(*selector, value))
-            })
-    })
+/// Whether a protocol is TCP or UDP.
+fn is_ported(value: &Value) -> bool {
+    let number = number_of(value, ComparedType::Named(ValueType::Protocol));
+    matches!(number, Some(TCP | UDP))
 }
 
 /// The elements of a set in a rule of a table.
@@ -72,27 +83,12 @@ fn elements_of<'a>(table: &'a Table, set: &'a SetRef) -> &'a [Element] {
         SetRef::Anonymous(elements) => return elements,
         SetRef::Named(name) => name.as_slice(),
     };
-    let mut sets = table.items.iter().filter_map(Item::set);
-    match sets.find(|set| set.name.as_slice() == name) {
-        Some(set) => set.elements.as_deref().unwrap_or(&[]),
-        None => &[],
+    for item in &table.items {
+        if let Item::Set(set) = item
+            && set.name.as_slice() == name
+        {
+            return set.elements.as_deref().unwrap_or(&[]);
+        }
     }
-}
-
-/// The value in a part of an element's key; none of a range.
-fn value_in(element: &Element, part: usize) -> Option<&Value> {
-    match &element.key {
-        Key::Single(ValueRange::One(value)) => Some(value),
-        Key::Single(_) => None,
-        Key::Joined(values) => values.get(part),
-    }
-}
-
-fn reads_protocol(selector: Selector) -> bool {
-    matches!(selector, Selector::IpProtocol | Selector::MetaProtocol)
-}
-
-/// Whether a literal of a selector is the protocol TCP or UDP.
-fn is_ported(selector: Selector, value: &Value) -> bool {
-    reads_protocol(selector) && matches!(number_of(value, selector.kind()), Some(TCP | UDP))
+    &[]
 }

@@ -13,11 +13,6 @@ pub(crate) const UDP: u128 = 17;
 /// ICMPv6, IPComp, SCTP, UDP-Lite.
 static KNOWN: [u128; 11] = [ICMP, 2, TCP, UDP, 33, 50, 51, 58, 108, 132, 136];
 
-/// The numbers of families (linux/netfilter.h).
-const NFPROTO_IPV4: u128 = 2;
-
-const NFPROTO_IPV6: u128 = 10;
-
 /// The family of a rule's packets.
 #[derive(Clone, Copy)]
 enum Network {
@@ -45,6 +40,16 @@ pub(crate) struct Protocols {
     transport: Transport,
 }
 
+/// The transport protocol that alone has what a selector reads.
+pub(crate) fn transport_of(selector: Selector) -> Option<u128> {
+    match selector {
+        Selector::TcpSource | Selector::TcpDestination | Selector::TcpFlags => Some(TCP),
+        Selector::UdpSource | Selector::UdpDestination => Some(UDP),
+        Selector::IcmpType => Some(ICMP),
+        _ => None,
+    }
+}
+
 impl Protocols {
     pub(crate) fn new(family: Family) -> Protocols {
         let is_inet = matches!(family, Family::Inet);
@@ -66,20 +71,13 @@ impl Protocols {
                 Network::Ipv6 | Network::Other => return Some(warning::FAMILY_CONFLICT),
                 Network::Any | Network::Ipv4 => self.network = Network::Ipv4,
             },
-            Selector::TcpSource | Selector::TcpDestination | Selector::TcpFlags => {
-                return self.add_transport(TCP);
-            }
-            Selector::UdpSource | Selector::UdpDestination => return self.add_transport(UDP),
-            Selector::IcmpType => {
-                if matches!(self.network, Network::Any) && !self.has_transport() {
-                    self.network = Network::Ipv4;
-                }
-                return self.add_transport(ICMP);
+            Selector::IcmpType if matches!(self.network, Network::Any) && !self.has_transport() => {
+                self.network = Network::Ipv4;
             }
             Selector::MetaFamily if !self.is_inet => return Some(warning::FAMILY_IN_IP_TABLE),
             _ => {}
         }
-        None
+        self.add_transport(transport_of(selector)?)
     }
 
     /// Adds a transport protocol, and returns what nft refuses of a selector that asks for it.
@@ -104,9 +102,10 @@ impl Protocols {
             Selector::IpProtocol if !KNOWN.contains(&number) => {}
             Selector::IpProtocol | Selector::MetaProtocol => _ = self.add_transport(number),
             Selector::MetaFamily if self.is_inet => {
+                // NFPROTO_IPV4 and NFPROTO_IPV6 (linux/netfilter.h).
                 self.network = match number {
-                    NFPROTO_IPV4 => Network::Ipv4,
-                    NFPROTO_IPV6 => Network::Ipv6,
+                    2 => Network::Ipv4,
+                    10 => Network::Ipv6,
                     _ => Network::Other,
                 };
             }

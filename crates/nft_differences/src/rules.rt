@@ -1,7 +1,7 @@
 //! What nft(8) refuses of rules, or means otherwise by them.
 use crate::chains::is_early;
 use crate::findings::Findings;
-use crate::ports::{is_of_ports, leave_ports, selectors_of};
+use crate::ports::{is_of_ports, ports_start, selectors_of};
 use crate::protocols::Protocols;
 use crate::tokens::Tokens;
 use crate::warning::{self, Warning};
@@ -15,11 +15,10 @@ use std::alloc::AllocError;
 
 /// A rule that is read from left to right, beside its tokens.
 #[derive(Drop)]
-pub(crate) struct Walk<'f, 'a> {
+struct Walk<'f, 'a> {
     findings: &'f mut Findings<'a>,
     tokens: Tokens<'a>,
-    table: &'f Table,
-    /// The tokens of the rule, and then those of the statement that is read.
+    /// The tokens of the statement that is read.
     range: TokenRange,
     /// The token up to which it is read.
     at: usize,
@@ -32,50 +31,45 @@ pub(crate) struct Walk<'f, 'a> {
     has_exit: bool,
 }
 
-impl<'f, 'a> Walk<'f, 'a> {
-    /// The walk through the rule of a chain at this range.
-    pub(crate) fn new(
-        findings: &'f mut Findings<'a>,
-        table: &'f Table,
+impl Findings<'_> {
+    /// Adds the warnings about a rule of a chain.
+    pub(crate) fn judge_rule(
+        &mut self,
+        table: &Table,
         chain: &Chain,
+        rule: &Rule,
         range: TokenRange,
-    ) -> Walk<'f, 'a> {
+    ) -> Result<(), AllocError> {
+        let alloc = self.alloc;
+        let places = statements(alloc, self.tokens.all, range)?.unwrap_or(Vec::new(alloc));
         let (is_early, hook) = match &chain.head {
             Some(head) => (is_early(head), Some(head.hook)),
             None => (false, None),
         };
-        Walk {
-            tokens: findings.tokens,
-            findings,
-            table,
+        let ports_start = ports_start(table, &rule.statements);
+        let start = self.tokens.offset(range.first);
+        self.rules.push(start)?;
+        let mut walk = Walk {
+            tokens: self.tokens,
+            findings: self,
             range,
             at: range.first,
             protocols: Protocols::new(table.family),
             is_ported: false,
             is_early,
             has_exit: !matches!(hook, Some(Hook::Prerouting | Hook::Input)),
-        }
-    }
-
-    /// Adds the warnings about the rule.
-    pub(crate) fn judge(&mut self, rule: &Rule) -> Result<(), AllocError> {
-        let alloc = self.findings.alloc;
-        let places = statements(alloc, self.tokens.all, self.range)?.unwrap_or(Vec::new(alloc));
-        let mut follows_match = false;
+        };
         for (number, (statement, place)) in rule.statements.iter().zip(&places).enumerate() {
-            let is_match = matches!(statement, Stmt::Match(_));
-            if is_match && !follows_match {
-                let run = rule.statements.get(number..).unwrap_or(&[]);
-                self.is_ported = self.is_ported || leave_ports(self.table, run);
-            }
-            follows_match = is_match;
-            self.range = *place;
-            self.at = place.first;
-            self.judge_statement(statement)?;
+            walk.range = *place;
+            walk.at = place.first;
+            walk.is_ported = walk.is_ported || ports_start <= number;
+            walk.judge_statement(statement)?;
         }
         Ok(())
     }
+}
 
+impl Walk<'_, '_> {
     fn judge_statement(&mut self, statement: &Stmt) -> Result<(), AllocError> {
         match statement {
             Stmt::Match(test) => self.judge_match(test),
@@ -156,10 +150,11 @@ impl<'f, 'a> Walk<'f, 'a> {
     /// Reads the selectors of a match. Of those that ask that the output interface be another one
     /// than those named the first is told.
     fn read_all(&mut self, test: &Match) {
-        let mut excludes = match test {
-            Match::Compare(_, Operator::Unequal, _) | Match::NotIn(_, _) => !self.has_exit,
-            _ => false,
-        };
+        let mut excludes = !self.has_exit
+            && matches!(
+                test,
+                Match::Compare(_, Operator::Unequal, _) | Match::NotIn(_, _)
+            );
         for selector in selectors_of(test) {
             self.read(*selector);
             if excludes && matches!(selector, Selector::OutputName | Selector::OutputIndex) {
@@ -179,18 +174,18 @@ impl<'f, 'a> Walk<'f, 'a> {
         let [selector] = selectors else {
             return Ok(());
         };
-        let elements = match set {
-            SetRef::Anonymous(elements) => elements.as_slice(),
-            SetRef::Named(_) => &[],
-        };
         let has_operator = matches!(self.tokens.bytes(self.at), b"==" | b"!=");
-        match selector {
-            Selector::CtStatus | Selector::TcpFlags if elements.len() == 1 && !has_operator => {
+        match (selector, set) {
+            (Selector::CtStatus | Selector::TcpFlags, SetRef::Anonymous(elements))
+                if elements.len() == 1 && !has_operator => {
                 self.add(self.range.first, warning::SINGLE_BIT);
             }
-            Selector::CtStatus => self.add(self.range.first, warning::WHOLE_STATUS),
+            (Selector::CtStatus, _) => self.add(self.range.first, warning::WHOLE_STATUS),
             _ => {}
         }
+        let SetRef::Anonymous(elements) = set else {
+            return Ok(());
+        };
         for element in elements {
             if let Key::Single(ValueRange::One(value)) = &element.key
                 && is_in
@@ -203,32 +198,13 @@ impl<'f, 'a> Walk<'f, 'a> {
             .judge_anonymous(elements, kind, false, self.range)
     }
 
-    /// Judges how a mask of TCP flags is written.
+    /// Judges how a mask of TCP flags is written: behind `/`, or as `& MASK == FLAGS`.
     fn judge_mask(&mut self) {
-        let tokens = self.tokens;
-        if tokens.is(self.at, b"&") {
-            return self.judge_group();
-        }
-        let mut unread = self.at..self.range.end;
-        let Some(slash) = unread.find(|index| tokens.is(*index, b"/")) else {
-            return;
-        };
-        let mask = tokens.bytes(slash.saturating_add(1));
-        match tokens.bytes(slash.saturating_add(2)) {
-            b"," => {}
-            b"|" => self.add(slash, warning::MASK_OF_ONE),
-            // The flags have 8 bits.
-            _ if matches!(mask, [b'0'..=b'8']) => self.add(slash, warning::MASK_AS_PREFIX),
-            _ => self.add(slash, warning::MASK_OF_ONE),
-        }
-    }
-
-    /// Judges `& MASK == FLAGS`.
-    fn judge_group(&mut self) {
+        let mut is_mask = self.tokens.is(self.at, b"&");
         let mut is_open = false;
-        let mut is_mask = true;
         for index in self.at..self.range.end {
             match self.tokens.bytes(index) {
+                b"/" => return self.judge_slash(index),
                 b"(" => is_open = true,
                 b")" => is_open = false,
                 b"==" | b"!=" => is_mask = false,
@@ -236,6 +212,20 @@ impl<'f, 'a> Walk<'f, 'a> {
                 b"|" if is_mask && !is_open => return self.add(self.at, warning::OPEN_MASK),
                 _ => {}
             }
+        }
+    }
+
+    /// Judges the mask behind a slash.
+    fn judge_slash(&mut self, slash: usize) {
+        let mask = self.tokens.bytes(slash.saturating_add(1));
+        match (mask, self.tokens.bytes(slash.saturating_add(2))) {
+            (_, b",") => {}
+            // The flags have 8 bits.
+            ([b'0'..=b'8'], next) if !matches!(next, b"|") => self.add(
+                slash,
+                warning::MASK_AS_PREFIX,
+            ),
+            _ => self.add(slash, warning::MASK_OF_ONE),
         }
     }
 
@@ -247,7 +237,14 @@ impl<'f, 'a> Walk<'f, 'a> {
         {
             self.add(place, warning);
         }
-        if has_ports(nat) && !self.protocols.has_transport() {
+        let has_ports = matches!(
+            nat,
+            Nat::Source(SourceTarget::Address(_, Some(_)))
+                | Nat::Destination(DestinationTarget::Address(_, Some(_)))
+                | Nat::Masquerade(Some(_))
+                | Nat::Redirect(Some(_))
+        );
+        if has_ports && !self.protocols.has_transport() {
             self.add(place, warning::PORTS_WITHOUT_PROTOCOL);
         }
         match nat {
@@ -260,14 +257,4 @@ impl<'f, 'a> Walk<'f, 'a> {
             _ => Ok(()),
         }
     }
-}
-
-fn has_ports(nat: &Nat) -> bool {
-    matches!(
-        nat,
-        Nat::Source(SourceTarget::Address(_, Some(_)))
-            | Nat::Destination(DestinationTarget::Address(_, Some(_)))
-            | Nat::Masquerade(Some(_))
-            | Nat::Redirect(Some(_))
-    )
 }

@@ -1,7 +1,6 @@
 //! The tokens of a ruleset's text, newlines among them.
-use nft_lexer::{LexError, Token, lex};
+use nft_lexer::Token;
 use node_spans::TokenRange;
-use std::alloc::{AllocError, Global};
 use std::ops::Range;
 
 /// A text with its tokens.
@@ -9,18 +8,6 @@ use std::ops::Range;
 pub(crate) struct Tokens<'a> {
     pub text: &'a [u8],
     pub all: &'a [Token<'a>],
-}
-
-/// The tokens of a text, where it can be read.
-pub(crate) fn lexed<'a>(
-    alloc: Global,
-    text: &'a [u8],
-) -> Result<Option<Vec<Token<'a>>>, AllocError> {
-    match lex(alloc, text) {
-        Ok(tokens) => Ok(Some(tokens)),
-        Err(LexError::Refused(_)) => Ok(None),
-        Err(LexError::Memory) => Err(AllocError),
-    }
 }
 
 impl<'a> Tokens<'a> {
@@ -44,19 +31,11 @@ impl<'a> Tokens<'a> {
         }
     }
 
-    /// Whether a token follows the one before it directly, without blanks.
-    pub(crate) fn is_tight(self, index: usize) -> bool {
+    /// The blanks and the comment between a token and the one before it.
+    pub(crate) fn gap(self, index: usize) -> &'a [u8] {
         let before = index.saturating_sub(1);
-        let end = self.offset(before).saturating_add(self.bytes(before).len());
-        before < index && index < self.all.len() && end == self.offset(index)
-    }
-
-    /// Whether a token is the newline of a line that has only a comment: none for nft.
-    pub(crate) fn ends_comment_line(self, index: usize) -> bool {
-        let before = self.text.get(..self.offset(index)).unwrap_or(&[]);
-        let mut lines = before.rsplit(|byte| *byte == b'\n');
-        let line = lines.next().unwrap_or(&[]);
-        self.is(index, b"\n") && line.trim_ascii_start().starts_with(b"#")
+        let start = self.offset(before).saturating_add(self.bytes(before).len());
+        self.text.get(start..self.offset(index)).unwrap_or(&[])
     }
 
     /// The tokens of a declaration behind its opening brace.
