@@ -13,6 +13,11 @@ pub(crate) const UDP: u128 = 17;
 /// ICMPv6, IPComp, SCTP, UDP-Lite.
 static KNOWN: [u128; 11] = [ICMP, 2, TCP, UDP, 33, 50, 51, 58, 108, 132, 136];
 
+/// The numbers of families (linux/netfilter.h).
+const NFPROTO_IPV4: u128 = 2;
+
+const NFPROTO_IPV6: u128 = 10;
+
 /// The family of a rule's packets.
 #[derive(Clone, Copy)]
 enum Network {
@@ -102,10 +107,9 @@ impl Protocols {
             Selector::IpProtocol if !KNOWN.contains(&number) => {}
             Selector::IpProtocol | Selector::MetaProtocol => _ = self.add_transport(number),
             Selector::MetaFamily if self.is_inet => {
-                // NFPROTO_IPV4 and NFPROTO_IPV6 (linux/netfilter.h).
                 self.network = match number {
-                    2 => Network::Ipv4,
-                    10 => Network::Ipv6,
+                    NFPROTO_IPV4 => Network::Ipv4,
+                    NFPROTO_IPV6 => Network::Ipv6,
                     _ => Network::Other,
                 };
             }
