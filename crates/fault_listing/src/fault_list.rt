@@ -186,7 +186,7 @@ impl<'a> FaultList<'a> {
             if self.is_open() && !self.has_found_in(between(tokens, first, part.end)) {
                 self.list_part(tokens, *part)?;
             }
-            if part.item.is_none() && part.kind == PartKind::Item {
+            if part.item.is_none() && matches!(part.kind, PartKind::Tables | PartKind::Item) {
                 self.note_removed(tokens.get(part.first..part.end).unwrap_or(&[]))?;
             }
             gone.push(between(tokens, part.first, part.next))?;
