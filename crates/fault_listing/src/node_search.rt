@@ -23,10 +23,10 @@ struct NodeSearch<'a> {
 ///
 /// # Errors
 /// `AllocError` for want of memory.
-pub fn faulty_nodes(
+pub fn faulty_nodes<'a>(
     alloc: Global,
-    tree: &Ruleset,
-    plant: &Plant,
+    tree: &'a Ruleset,
+    plant: &'a Plant,
 ) -> Result<Vec<FaultyNode>, AllocError> {
     let mut search = NodeSearch {
         alloc,

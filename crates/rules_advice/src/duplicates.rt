@@ -1,11 +1,11 @@
 //! What to do about a name that stands twice.
 use crate::around::Source;
-use crate::names::{declared, declares};
+use crate::names::{Kind, declared, declares};
 use advice::{Gap, with_words};
 use fault_nodes::Node;
 use fault_places::position_at;
 use fault_spans::node_range;
-use nft_tree::Ruleset;
+use nft_tree::{Item, Ruleset, Table};
 use std::alloc::{AllocError, Global};
 
 /// Writes on which line the name of a node stands before.
@@ -34,18 +34,33 @@ pub fn put_duplicate(
 /// The first node with the name of this one.
 fn namesake(tree: &Ruleset, node: Node) -> Option<Node> {
     match node {
-        Node::Table { table } => {
-            let own = tree.tables.get(table)?;
-            let mut all = tree.tables.iter();
-            let table = all.position(|other| other.family == own.family && other.name == own.name)?;
-            Some(Node::Table { table })
-        }
+        Node::Table { table } => same_table(tree, tree.tables.get(table)?),
         Node::Item { table, item } => {
             let items = &tree.tables.get(table)?.items;
             let (kind, name) = declared(items.get(item)?)?;
-            let item = items.iter().position(|other| declares(other, kind, name))?;
+            let item = first_declaring(items, kind, name)?;
             Some(Node::Item { table, item })
         }
         _ => None,
     }
+}
+
+/// The first table with the family and the name of another one.
+fn same_table(tree: &Ruleset, own: &Table) -> Option<Node> {
+    for (table, other) in tree.tables.iter().enumerate() {
+        if other.family == own.family && other.name == own.name {
+            return Some(Node::Table { table });
+        }
+    }
+    None
+}
+
+/// The first item that declares this.
+fn first_declaring(items: &[Item], kind: Kind, name: &str) -> Option<usize> {
+    for (number, item) in items.iter().enumerate() {
+        if declares(item, kind, name) {
+            return Some(number);
+        }
+    }
+    None
 }

@@ -217,13 +217,12 @@ fn unread_words<'a>(
 
 /// The number of the first word of the list around a place; that of no word where there is none.
 fn first_of_list(around: &Around<'_>) -> usize {
-    let mut first = around.words.len();
-    for number in 0..around.at {
-        if around.words.get(number) == "{" {
-            first = number.saturating_add(1);
+    for places in 1..around.at.saturating_add(1) {
+        if around.before(places) == "{" {
+            return around.at.saturating_sub(places).saturating_add(1);
         }
     }
-    first
+    around.words.len()
 }
 
 fn is_word(word: &str) -> bool {
