@@ -77,32 +77,56 @@ fn other_language(stop: &Stop<'_>) -> Option<&'static str> {
 /// What to do about what stands in a wrong place, or isn't read there: the word at the place, and two
 /// before it.
 fn misplaced(stop: &Stop<'_>) -> Option<&'static str> {
-    let (first, second, before) = (stop.words.get(0), stop.before(2), stop.before(1));
-    let behind = [before, second, stop.before(3), stop.before(4)];
-    Some(match (second, before, stop.here()) {
-        // An address of IPv6.
-        _ if stop.run.split(':').count() > 2 => ONLY_IPV4,
-        _ if stop.part.kind == PartKind::Tables && lists("chain set map", first) => {
-            "It stands in no table: take out the `}` that ends the table too early."
-        }
-        (_, _, "comment") if first == "chain" => "Write a comment at the end of its rule.",
-        (_, _, "policy") if first == "chain" && !behind.contains(&"priority") => {
-            "Write the policy right behind the `type` line."
-        }
+    let (second, before, here) = (stop.before(2), stop.before(1), stop.here());
+    // An address of IPv6.
+    if stop.run.split(':').count() > 2 {
+        return Some(ONLY_IPV4);
+    }
+    match (second, before, here) {
         ("dnat" | "snat", "to", ":") => {
-            "Write the address before the `:`, or `redirect to :PORT` for this box."
+            Some("Write the address before the `:`, or `redirect to :PORT` for this box.")
         }
-        ("to", _, "-") => "Write one address: NAT to a range isn't read.",
-        (":", _, "-") => "Write one port: `dnat` to a range of them isn't read.",
-        ("/", _, "-") | ("-", _, "/") => {
-            "The ends of a range have no `/`: write one prefix, or two addresses with `-` between them."
+        ("to", _, "-") => Some("Write one address: NAT to a range isn't read."),
+        (":", _, "-") => Some("Write one port: `dnat` to a range of them isn't read."),
+        ("/", _, "-") | ("-", _, "/") => Some(
+            "The ends of a range have no `/`: write one prefix, or two addresses with `-` between them.",
+        ),
+        ("comment", _, _) if stop.is_in_rule() => {
+            Some("Write the comment at the end of its rule.")
         }
-        ("comment", _, _) if stop.is_in_rule() => "Write the comment at the end of its rule.",
         (_, _, "vmap" | "map") if stop.words.has_before(stop.at, ".") => {
-            "A map has one selector as its key: compare the others before it."
+            Some("A map has one selector as its key: compare the others before it.")
         }
-        _ => return None,
-    })
+        _ => misplaced_in_table(stop),
+    }
+}
+
+/// The same outside of rules.
+fn misplaced_in_table(stop: &Stop<'_>) -> Option<&'static str> {
+    let first = stop.words.get(0);
+    if stop.part.kind == PartKind::Tables && lists("chain set map", first) {
+        return Some("It stands in no table: take out the `}` that ends the table too early.");
+    }
+    if first != "chain" {
+        return None;
+    }
+    match stop.here() {
+        "comment" => Some("Write a comment at the end of its rule."),
+        "policy" if !has_priority_before(stop) => {
+            Some("Write the policy right behind the `type` line.")
+        }
+        _ => None,
+    }
+}
+
+/// Whether the place is on the line of a chain's priority, or right behind it.
+fn has_priority_before(stop: &Stop<'_>) -> bool {
+    for places in 1..5 {
+        if stop.before(places) == "priority" {
+            return true;
+        }
+    }
+    false
 }
 
 /// What to do about the word at the place behind those before it.

@@ -112,18 +112,25 @@ fn missing_advice<'a>(stop: &Stop<'a>) -> Result<Option<Advice<'a>>, AllocError>
 
 /// Which of these marks is missing between two words.
 fn missing_mark<'a>(before: &'a str, here: &'a str, marks: &[&'static str]) -> Option<Advice<'a>> {
-    Some(match marks {
-        [] => return None,
-        [one] if *one == "{" && here.is_empty() => with_text("Expected `{` behind `{}`.", before),
-        _ if here.is_empty() => with_text(MORE_BEHIND, before),
-        [one] if *one == ";" => with_text("Expected `;` or a newline before `{}`.", here),
-        [one] if *one == "@" => with_text("Write `@{}`.", here),
-        [one, _] if *one == "{" => with_text("Write `@{}`.", here),
-        [one, other] => {
-            let gaps = [Gap::Text(one), Gap::Text(other), Gap::Text(here), NO_GAP];
+    let first = *marks.first()?;
+    if here.is_empty() {
+        let is_brace = marks.len() == 1 && first == "{";
+        let sentence = if is_brace {
+            "Expected `{` behind `{}`."
+        } else {
+            MORE_BEHIND
+        };
+        return Some(with_text(sentence, before));
+    }
+    Some(match (marks.len(), first) {
+        (1, ";") => with_text("Expected `;` or a newline before `{}`.", here),
+        (1, "@") | (2, "{") => with_text("Write `@{}`.", here),
+        (2, _) => {
+            let second = marks.last().copied().unwrap_or("");
+            let gaps = [Gap::Text(first), Gap::Text(second), Gap::Text(here), NO_GAP];
             filled("Expected `{}` or `{}` before `{}`.", gaps)
         }
-        [one, ..] => with_texts(WORD_BEFORE, one, here),
+        _ => with_texts(WORD_BEFORE, first, here),
     })
 }
 
