@@ -7,7 +7,9 @@ use fault_location::{
     syntax_place,
 };
 use fault_nodes::Node;
-use fault_places::{Span, bytes_of, heads_around, holds, is_in_one, mask, position_at, tokens_of};
+use fault_places::{
+    Position, Span, bytes_of, heads_around, holds, is_in_one, mask, position_at, span_of, tokens_of,
+};
 use fault_spans::node_range;
 use nft_lexer::{LexError, Punctuator, Token, TokenKind, lex};
 use nft_parser::TextFault;
@@ -125,7 +127,8 @@ impl<'a> FaultList<'a> {
         self.write_to(lines, &left)
     }
 
-    /// Puts a mark in place of what is no token, with which the part around it can't be read.
+    /// Puts a mark in place of what is no token, with which the part around it can't be read, unless
+    /// that is of more lines than this one.
     fn mark_bytes(&mut self, left: &mut Vec<u8>) -> Result<(), AllocError> {
         for _ in 0..MOST {
             let fault = match lex(self.alloc, left) {
@@ -140,7 +143,9 @@ impl<'a> FaultList<'a> {
             self.add(offset, Some(Fault::Text(TextFault::Lexical(fault))))?;
             let part = faulty_bytes(left, offset);
             mask(left, &[part]);
-            if let Some(byte) = left.get_mut(offset) {
+            if !is_of_block(left, offset)
+                && let Some(byte) = left.get_mut(offset)
+            {
                 *byte = b'=';
             }
         }
@@ -194,22 +199,23 @@ impl<'a> FaultList<'a> {
         Ok(gone)
     }
 
-    /// Lists the fault of a ruleset whose parts aren't known, unless one is listed at its place.
+    /// Lists the fault of a ruleset whose parts aren't known, without the tokens of those that are listed.
     fn list_place(&mut self, tokens: &[Token<'_>]) -> Result<(), AllocError> {
         let fault = if has_unsupported(tokens) {
             TextFault::Unsupported
         } else {
             TextFault::Syntax
         };
-        let Some(place) = syntax_place(self.alloc, tokens, fault)? else {
-            return Ok(());
-        };
-        let start = place.offset(tokens);
-        let end = start.saturating_add(1);
-        if self.has_found_in(Span { start, end }) {
-            return Ok(());
+        let mut left = Vec::new(self.alloc);
+        for token in tokens {
+            if !self.has_found_in(span_of(token)) {
+                left.push(*token)?;
+            }
         }
-        self.add(start, Some(Fault::Text(fault)))
+        match syntax_place(self.alloc, &left, fault)? {
+            Some(place) => self.add(place.offset(&left), Some(Fault::Text(fault))),
+            None => Ok(()),
+        }
     }
 
     /// Lists the fault of a part.
@@ -348,6 +354,16 @@ impl<'a> FaultList<'a> {
             None => lines.push('\n'),
         }
     }
+}
+
+/// Whether the line at an offset opens or closes a brace, and so belongs to more lines.
+fn is_of_block(text: &[u8], offset: usize) -> bool {
+    if offset > text.len() {
+        return false;
+    }
+    let Position { start, end, .. } = position_at(text, offset);
+    let line = bytes_of(text, Span { start, end });
+    line.contains(&b'{') != line.contains(&b'}')
 }
 
 /// What is no token: the bytes up to a blank, of a string up to the line's end.

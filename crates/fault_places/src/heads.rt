@@ -42,11 +42,21 @@ pub fn heads_around(
 }
 
 impl<'a> Scan<'a> {
-    /// The token so many places behind one, as text; empty where there is none.
+    /// The word so many places behind a token; empty where no word stands there.
     fn word(self, first: usize, number: usize) -> &'a str {
         match self.tokens.get(first.saturating_add(number)) {
-            Some(token) => str::from_utf8(token.text).unwrap_or(""),
-            None => "",
+            Some(token) if matches!(token.kind, TokenKind::Word) => {
+                str::from_utf8(token.text).unwrap_or("")
+            }
+            _ => "",
+        }
+    }
+
+    /// Whether an opening brace stands so many places behind a token.
+    fn has_brace(self, first: usize, number: usize) -> bool {
+        match self.tokens.get(first.saturating_add(number)) {
+            Some(token) => token.text == b"{".as_slice(),
+            None => false,
         }
     }
 
@@ -106,15 +116,18 @@ impl<'a> Scan<'a> {
         let Some(table) = self.begun[0] else {
             return Ok(line);
         };
-        if self.word(table, 0) != "table" {
+        let (mut family, mut name, mut brace) = (self.word(table, 1), self.word(table, 2), 3);
+        if name.is_empty() {
+            (family, name, brace) = ("ip", family, 2);
+        }
+        let is_named = self.word(table, 0) == "table" && !name.is_empty();
+        if !is_named || !self.has_brace(table, brace) {
             return Ok(line);
         }
-        let (mut family, mut name) = (self.word(table, 1), self.word(table, 2));
-        if name == "{" {
-            (family, name) = ("ip", family);
-        }
         write!(line, "table {family} {name}")?;
-        if let Some(item) = self.begun[1] {
+        if let Some(item) = self.begun[1]
+            && !self.word(item, 1).is_empty()
+        {
             write!(line, ", {} {}", self.word(item, 0), self.word(item, 1))?;
         }
         if self.is_in_rule() {
