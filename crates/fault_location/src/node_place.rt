@@ -2,8 +2,8 @@
 use crate::faults::read_box;
 use box_file::Plant;
 use fault_nodes::{FaultyNode, Node, declarations, ruleset_between, ruleset_parts};
-use fault_places::{Span, span_of, tokens_of};
-use fault_spans::{fault_span, node_range};
+use fault_places::{Span, span_of, tokens_of, tokens_within};
+use fault_spans::fault_span;
 use nft_lexer::{Punctuator, Token, TokenKind};
 use nft_rulesets::ruleset;
 use nft_tree::{
@@ -37,10 +37,8 @@ pub fn check_place(
     let Some(found) = fault_span(alloc, text, &plant, likely)? else {
         return Ok(None);
     };
-    let Some(range) = node_range(alloc, &tokens, found.node)? else {
-        return Ok(None);
-    };
-    let own = tokens.get(range.first..range.end).unwrap_or(&[]);
+    let (start, end) = (found.start, found.end);
+    let own = tokens_within(&tokens, Span { start, end });
     let found = FaultyNode {
         fault: found.fault,
         node: found.node,

@@ -13,6 +13,8 @@ struct Scan<'a> {
     begun: [Option<usize>; 3],
     /// How many rules of the chain begin.
     rules: usize,
+    /// How many tokens are read.
+    read: usize,
 }
 
 /// The table, by default of the family ip, the chain, the set or the map, and the rule around an
@@ -26,22 +28,52 @@ pub fn heads_around(
     tokens: &[Token<'_>],
     offset: usize,
 ) -> Result<String, AllocError> {
-    let mut scan = Scan {
-        tokens,
-        depth: 0,
-        begun: [None; 3],
-        rules: 0,
+    Scan::up_to(tokens, offset).described(alloc)
+}
+
+/// The tokens around an offset of what stands in so many braces: in none a table, in one a
+/// declaration, in two a rule; none where nothing does.
+pub fn tokens_around<'a>(tokens: &'a [Token<'a>], offset: usize, depth: usize) -> &'a [Token<'a>] {
+    let mut scan = Scan::up_to(tokens, offset);
+    let Some(first) = scan.begun_in(depth) else {
+        return &[];
     };
-    for (at, token) in tokens.iter().enumerate() {
-        if offset < token.start {
-            break;
+    for at in scan.read..tokens.len() {
+        scan.read_token(at, &tokens[at], usize::MAX);
+        if scan.begun_in(depth) != Some(first) {
+            return &tokens[first.min(at)..at];
         }
-        scan.read(at, token, offset);
     }
-    scan.described(alloc)
+    &tokens[first.min(tokens.len())..]
 }
 
 impl<'a> Scan<'a> {
+    /// Reads the tokens that don't begin behind an offset.
+    fn up_to(tokens: &'a [Token<'a>], offset: usize) -> Scan<'a> {
+        let mut scan = Scan {
+            tokens,
+            depth: 0,
+            begun: [None; 3],
+            rules: 0,
+            read: 0,
+        };
+        for (at, token) in tokens.iter().enumerate() {
+            if offset < token.start {
+                break;
+            }
+            scan.read_token(at, token, offset);
+        }
+        scan
+    }
+
+    /// The token with which what stands in so many braces begins.
+    fn begun_in(self, depth: usize) -> Option<usize> {
+        match self.begun.get(depth) {
+            Some(begun) => *begun,
+            None => None,
+        }
+    }
+
     /// The word so many places behind a token; empty where no word stands there.
     fn word(self, first: usize, number: usize) -> &'a str {
         match self.tokens.get(first.saturating_add(number)) {
@@ -61,7 +93,8 @@ impl<'a> Scan<'a> {
     }
 
     /// Reads a token that doesn't begin behind the offset.
-    fn read(&mut self, at: usize, token: &Token<'_>, offset: usize) {
+    fn read_token(&mut self, at: usize, token: &Token<'_>, offset: usize) {
+        self.read = at.saturating_add(1);
         match token.kind {
             TokenKind::NewLine | TokenKind::Punctuator(Punctuator::Semicolon) => self.end(),
             TokenKind::Punctuator(Punctuator::CloseBrace) => {

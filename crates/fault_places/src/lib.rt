@@ -10,7 +10,9 @@ mod part;
 mod position;
 mod words;
 
-pub use heads::heads_around;
-pub use part::{Span, bytes_of, holds, is_in_one, mask, rest_from, shown, span_of, tokens_of};
+pub use heads::{heads_around, tokens_around};
+pub use part::{
+    Span, bytes_of, holds, is_in_one, mask, rest_from, shown, span_of, tokens_of, tokens_within,
+};
 pub use position::{Position, position_at, show};
 pub use words::Words;

@@ -68,12 +68,38 @@ pub fn span_of(token: &Token<'_>) -> Span {
     }
 }
 
+/// How many tokens begin before an offset.
+pub fn count_before(tokens: &[Token<'_>], offset: usize) -> usize {
+    for (count, token) in tokens.iter().enumerate() {
+        if offset <= token.start {
+            return count;
+        }
+    }
+    tokens.len()
+}
+
+/// The tokens that begin in a part.
+pub fn tokens_within<'a, 't>(tokens: &'a [Token<'t>], part: Span) -> &'a [Token<'t>] {
+    let end = count_before(tokens, part.end).min(tokens.len());
+    let first = count_before(tokens, part.start).min(end);
+    &tokens[first..end]
+}
+
 /// The tokens of a text, up to what is none.
 ///
 /// # Errors
 /// `AllocError` for want of memory.
 pub fn tokens_of(alloc: Global, text: &[u8]) -> Result<Vec<Token<'_>>, AllocError> {
-    match lex(alloc, text.get(..fault_start(text)).unwrap_or(&[])) {
+    match lex(alloc, text) {
+        Ok(tokens) => Ok(tokens),
+        Err(LexError::Refused(_)) => tokens_before(alloc, text, fault_start(text)),
+        Err(LexError::Memory) => Err(AllocError),
+    }
+}
+
+/// The tokens before an offset; none where the text isn't one of tokens up to it.
+fn tokens_before(alloc: Global, text: &[u8], offset: usize) -> Result<Vec<Token<'_>>, AllocError> {
+    match lex(alloc, text.get(..offset).unwrap_or(&[])) {
         Ok(tokens) => Ok(tokens),
         Err(LexError::Refused(_)) => Ok(Vec::new(alloc)),
         Err(LexError::Memory) => Err(AllocError),

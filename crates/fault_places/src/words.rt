@@ -1,4 +1,5 @@
 //! Words of a part of a ruleset.
+use crate::part::count_before;
 use nft_lexer::{Token, TokenKind};
 use std::alloc::{AllocError, Global};
 
@@ -45,12 +46,7 @@ impl<'a> Words<'a> {
 
     /// How many words begin before an offset.
     pub fn count_before(&self, offset: usize) -> usize {
-        for (count, token) in self.tokens.iter().enumerate() {
-            if offset <= token.start {
-                return count;
-            }
-        }
-        self.tokens.len()
+        count_before(&self.tokens, offset)
     }
 
     /// The tokens of the words before a number.

@@ -1,11 +1,13 @@
 //! What is around a fault of a ruleset.
 use crate::names::{Kind, declares, item_named};
 use fault_nodes::Node;
-use fault_places::Words;
-use fault_spans::node_range;
+use fault_places::{Words, tokens_around};
 use nft_lexer::Token;
 use nft_tree::{Item, Ruleset, Table};
 use std::alloc::{AllocError, Global};
+
+/// In how many braces rules stand.
+const IN_RULE: usize = 2;
 
 /// A text, its tokens, and the ruleset that they spell.
 #[derive(Clone, Copy)]
@@ -38,20 +40,16 @@ impl<'a> Around<'a> {
         offset: usize,
     ) -> Result<Option<Around<'a>>, AllocError> {
         let Source { tokens, tree, .. } = source;
-        let (outer, table, item) = outer(node);
+        let (depth, table, item) = place_of(node);
         let Some(table) = tree.tables.get(table) else {
             return Ok(None);
         };
-        let Some(range) = node_range(alloc, tokens, outer)? else {
-            return Ok(None);
-        };
-        let part = tokens.get(range.first..range.end);
-        let words = Words::among(alloc, part.unwrap_or(&[]))?;
+        let words = Words::among(alloc, tokens_around(tokens, offset, depth))?;
         Ok(Some(Around {
             tree,
             table,
             item: table.items.get(item.unwrap_or(usize::MAX)),
-            is_in_rule: matches!(outer, Node::Rule { .. }),
+            is_in_rule: depth == IN_RULE,
             at: words.count_before(offset),
             words,
         }))
@@ -85,25 +83,14 @@ impl<'a> Around<'a> {
     }
 }
 
-/// The rule around a node, or else the declaration, with the numbers of its table and of its item.
-fn outer(node: Node) -> (Node, usize, Option<usize>) {
+/// In how many braces the rule around a node stands, or else the declaration; and the numbers of its
+/// table and of its item.
+fn place_of(node: Node) -> (usize, usize, Option<usize>) {
     match node {
-        Node::Table { table } => (node, table, None),
-        Node::Item { table, item } | Node::Element { table, item, .. } => {
-            (Node::Item { table, item }, table, Some(item))
-        }
-        Node::Rule { table, item, rule }
-        | Node::Statement {
-            table,
-            item,
-            rule,
-            ..
-        }
-        | Node::AnonymousElement {
-            table,
-            item,
-            rule,
-            ..
-        } => { (Node::Rule { table, item, rule }, table, Some(item)) }
+        Node::Table { table } => (0, table, None),
+        Node::Item { table, item } | Node::Element { table, item, .. } => (1, table, Some(item)),
+        Node::Rule { table, item, .. }
+        | Node::Statement { table, item, .. }
+        | Node::AnonymousElement { table, item, .. } => (IN_RULE, table, Some(item)),
     }
 }
