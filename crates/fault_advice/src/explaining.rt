@@ -11,7 +11,7 @@ use fault_location::{
 use fault_places::{heads_around, show, tokens_of};
 use nft_lexer::LexFault;
 use nft_parser::TextFault;
-use rules_advice::{put_advice_on_box, put_advice_on_rules};
+use rules_advice::{Source, put_advice_on_box, put_advice_on_rules};
 use std::alloc::{AllocError, Global};
 
 /// The lines that explain a fault: what its code means, and, if it is one of the ruleset or of the
@@ -90,15 +90,20 @@ impl<'a> Explaining<'a> {
     /// Writes where a fault of a ruleset as a whole is, what is around it, and what to do.
     fn put_place_in_rules(self, lines: &mut String) -> Result<(), AllocError> {
         let (alloc, text, plant) = (self.alloc, self.sources.rules, self.sources.plant);
-        let Some(CheckPlace { found, word }) = check_place(alloc, text, plant)? else {
+        let Some(CheckPlace { span, word }) = check_place(alloc, text, plant)? else {
             return Ok(());
         };
         self.show(word.start, lines)?;
-        let around = heads_around(alloc, &tokens_of(alloc, text)?, word.start)?;
+        let around = heads_around(alloc, &span.tokens, word.start)?;
         if !around.is_empty() {
             writeln!(lines, "{}", around.as_str())?;
         }
-        put_advice_on_rules(alloc, text, plant, found, word.start, lines)
+        let source = Source {
+            text,
+            tokens: &span.tokens,
+            tree: &span.tree,
+        };
+        put_advice_on_rules(alloc, source, plant, span.found, word.start, lines)
     }
 
     /// Writes where a fault of a box file is, and what to do.

@@ -11,7 +11,7 @@ use fault_places::{
     Position, Span, bytes_of, heads_around, holds, is_in_one, mask, position_at, span_of, tokens_of,
 };
 use fault_spans::node_range;
-use nft_lexer::{LexError, Punctuator, Token, TokenKind, lex};
+use nft_lexer::{LexError, LexFault, Punctuator, Token, TokenKind, lex};
 use nft_parser::TextFault;
 use nft_rulesets::{has_unsupported, ruleset};
 use nft_tree::Ruleset;
@@ -87,7 +87,7 @@ impl<'a> FaultList<'a> {
     /// Writes the faults of a box file.
     fn put_box(&mut self, lines: &mut String) -> Result<(), AllocError> {
         self.remove_box_lines(&mut self.text.to_vec(self.alloc)?)?;
-        self.write_to(lines, self.text)
+        self.write_to(lines, &tokens_of(self.alloc, self.text)?)
     }
 
     /// Removes the lines of a box file that have a fault.
@@ -109,45 +109,59 @@ impl<'a> FaultList<'a> {
     /// Writes the faults of a ruleset. What has one is taken out, until the rest can be read and is
     /// accepted, or can't be judged.
     fn put_rules(&mut self, plant: &[u8], lines: &mut String) -> Result<(), AllocError> {
-        let mut left = self.text.to_vec(self.alloc)?;
-        self.mark_bytes(&mut left)?;
         let plant = read_box(self.alloc, plant)?;
         self.is_partial = plant.is_none();
-        let mut tokens = tokens_of(self.alloc, &left)?;
-        for round in 0..tokens.len() {
-            if !self.is_open() {
+        let mut left = self.text.to_vec(self.alloc)?;
+        for _ in 0..MOST {
+            match lex(self.alloc, &left) {
+                Ok(tokens) => {
+                    self.list_rules(&tokens, plant.as_ref())?;
+                    return self.write_to(lines, &tokens);
+                }
+                Err(LexError::Refused(fault)) => self.mark_byte(&mut left, fault)?,
+                Err(LexError::Memory) => return Err(AllocError),
+            }
+            if self.is_stuck {
                 break;
             }
-            let gone = self.list_tokens(&tokens, plant.as_ref(), round > 0)?;
-            if gone.is_empty() {
-                break;
-            }
-            tokens.retain(|token| !is_in_one(&gone, token.start));
         }
-        self.write_to(lines, &left)
+        self.write_to(lines, &tokens_of(self.alloc, &left)?)
     }
 
     /// Puts a mark in place of what is no token, with which the part around it can't be read, unless
     /// that is of more lines than this one.
-    fn mark_bytes(&mut self, left: &mut Vec<u8>) -> Result<(), AllocError> {
-        for _ in 0..MOST {
-            let fault = match lex(self.alloc, left) {
-                Ok(_) => return Ok(()),
-                Err(LexError::Refused(fault)) => fault,
-                Err(LexError::Memory) => return Err(AllocError),
-            };
-            let Some(offset) = lexical_place(left, fault) else {
-                self.is_stuck = true;
-                return Ok(());
-            };
-            self.add(offset, Some(Fault::Text(TextFault::Lexical(fault))))?;
-            let part = faulty_bytes(left, offset);
-            mask(left, &[part]);
-            if !is_of_block(left, offset)
-                && let Some(byte) = left.get_mut(offset)
-            {
-                *byte = b'=';
+    fn mark_byte(&mut self, left: &mut [u8], fault: LexFault) -> Result<(), AllocError> {
+        let Some(offset) = lexical_place(left, fault) else {
+            self.is_stuck = true;
+            return Ok(());
+        };
+        self.add(offset, Some(Fault::Text(TextFault::Lexical(fault))))?;
+        let part = faulty_bytes(left, offset);
+        mask(left, &[part]);
+        if !is_of_block(left, offset)
+            && let Some(byte) = left.get_mut(offset)
+        {
+            *byte = b'=';
+        }
+        Ok(())
+    }
+
+    /// Lists the faults of a ruleset of these tokens.
+    fn list_rules(
+        &mut self,
+        tokens: &[Token<'_>],
+        plant: Option<&Plant>,
+    ) -> Result<(), AllocError> {
+        let mut left = tokens.to_vec(self.alloc)?;
+        for round in 0..tokens.len() {
+            if !self.is_open() {
+                break;
             }
+            let gone = self.list_tokens(&left, plant, round > 0)?;
+            if gone.is_empty() {
+                break;
+            }
+            left.retain(|token| !is_in_one(&gone, token.start));
         }
         Ok(())
     }
@@ -310,13 +324,12 @@ impl<'a> FaultList<'a> {
         Ok(between(tokens, first, comma.unwrap_or(end)))
     }
 
-    /// Writes a line for each fault, in the order of the text, where some text has the parts around
+    /// Writes a line for each fault, in the order of the text, where these tokens are those around
     /// them, and a last line where there may be more.
-    fn write_to(&mut self, lines: &mut String, parts: &[u8]) -> Result<(), AllocError> {
+    fn write_to(&mut self, lines: &mut String, tokens: &[Token<'_>]) -> Result<(), AllocError> {
         self.found.sort_by_key(|found| found.offset)?;
-        let tokens = tokens_of(self.alloc, parts)?;
         for found in &self.found {
-            let around = heads_around(self.alloc, &tokens, found.offset)?;
+            let around = heads_around(self.alloc, tokens, found.offset)?;
             if let Some(fault) = found.fault {
                 self.write_fault(lines, fault, found.offset, around.as_str())?;
             }

@@ -34,51 +34,54 @@ pub fn faulty_nodes<'a>(
         plant,
         found: Vec::new(alloc),
     };
+    if least_fault(alloc, tree, plant)?.is_none() {
+        return Ok(search.found);
+    }
     let declared = ruleset_between(alloc, tree, 0, 0)?;
     match first_fault(alloc, &declared, plant, 0)? {
         Some(found) => search.found.push(found)?,
-        None => {
-            let _ = search.search(0, ruleset_parts(tree))?;
-        }
+        None => search.search(0, ruleset_parts(tree))?,
     }
     Ok(search.found)
 }
 
 impl<'a> NodeSearch<'a> {
     /// Searches a range of parts (rules, statements and elements), by their numbers in text order,
-    /// `end` exclusive, and returns whether they are refused together.
-    fn search(&mut self, start: usize, end: usize) -> Result<bool, AllocError> {
+    /// `end` exclusive, which are refused together.
+    fn search(&mut self, start: usize, end: usize) -> Result<(), AllocError> {
         if self.found.len() >= MOST {
-            return Ok(true);
+            return Ok(());
         }
-        let parts = ruleset_between(self.alloc, self.tree, start, end)?;
-        if least_fault(self.alloc, &parts, self.plant)?.is_none() {
-            return Ok(false);
-        }
-        let middle = start.saturating_add(end.saturating_sub(start) / 2);
-        if start < middle && middle < end {
-            let first = self.search(start, middle)?;
-            let second = self.search(middle, end)?;
-            if first || second {
-                return Ok(true);
+        let size = end.saturating_sub(start);
+        let middle = start.saturating_add(size / 2);
+        let mut is_of_half = false;
+        for (first, behind) in [(start, middle), (middle, end)] {
+            let is_half = first < behind && behind.saturating_sub(first) < size;
+            if is_half && self.is_refused(first, behind)? {
+                self.search(first, behind)?;
+                is_of_half = true;
             }
         }
-        self.add_completing(&parts, start, end)?;
-        Ok(true)
+        if is_of_half {
+            return Ok(());
+        }
+        self.add_completing(start, end)
+    }
+
+    /// Whether the parts of a range are refused together.
+    fn is_refused(&self, start: usize, end: usize) -> Result<bool, AllocError> {
+        let parts = ruleset_between(self.alloc, self.tree, start, end)?;
+        Ok(least_fault(self.alloc, &parts, self.plant)?.is_some())
     }
 
     /// Adds the part with which those of a range get their fault. Where it is a rule or a statement
     /// around them, it is found by itself.
-    fn add_completing(
-        &mut self,
-        parts: &Ruleset,
-        start: usize,
-        end: usize,
-    ) -> Result<(), AllocError> {
-        let declared = declarations(parts);
-        let total = declared.saturating_add(ruleset_parts(parts));
+    fn add_completing(&mut self, start: usize, end: usize) -> Result<(), AllocError> {
+        let parts = ruleset_between(self.alloc, self.tree, start, end)?;
+        let declared = declarations(&parts);
+        let total = declared.saturating_add(ruleset_parts(&parts));
         let likely = total.saturating_sub(1);
-        let Some(found) = first_fault(self.alloc, parts, self.plant, likely)? else {
+        let Some(found) = first_fault(self.alloc, &parts, self.plant, likely)? else {
             return Ok(());
         };
         let part = end.saturating_sub(total.saturating_sub(found.position));

@@ -1,11 +1,10 @@
 //! Where a fault of a ruleset as a whole stands: at the node with which the ruleset gets it.
 use crate::faults::read_box;
 use box_file::Plant;
-use fault_nodes::{FaultyNode, Node, declarations, ruleset_between, ruleset_parts};
-use fault_places::{Span, span_of, tokens_of, tokens_within};
-use fault_spans::fault_span;
+use fault_nodes::{FaultyNode, Node, declarations, ruleset_between};
+use fault_places::{Span, span_of, tokens_within};
+use fault_spans::{FaultSpan, fault_span};
 use nft_lexer::{Punctuator, Token, TokenKind};
-use nft_rulesets::ruleset;
 use nft_tree::{
     Data, DestinationTarget, Item, MapRef, Nat, Operand, Pair, Ruleset, SourceTarget, Stmt, Value,
     Verdict,
@@ -13,10 +12,10 @@ use nft_tree::{
 use rule_check::{CheckFault, least_fault};
 use std::alloc::{AllocError, Global};
 
-/// A fault of a ruleset, and the word at which it is shown.
-#[derive(Clone, Copy)]
-pub struct CheckPlace {
-    pub found: FaultyNode,
+/// A ruleset with a fault, and the word at which it is shown.
+#[derive(Drop)]
+pub struct CheckPlace<'t> {
+    pub span: FaultSpan<'t>,
     pub word: Span,
 }
 
@@ -24,44 +23,21 @@ pub struct CheckPlace {
 ///
 /// # Errors
 /// `AllocError` for want of memory.
-pub fn check_place(
+pub fn check_place<'t>(
     alloc: Global,
-    text: &[u8],
+    text: &'t [u8],
     plant: &[u8],
-) -> Result<Option<CheckPlace>, AllocError> {
-    let tokens = tokens_of(alloc, text)?;
-    let (Some(tree), Some(plant)) = (ruleset(alloc, &tokens)?, read_box(alloc, plant)?) else {
+) -> Result<Option<CheckPlace<'t>>, AllocError> {
+    let Some(plant) = read_box(alloc, plant)? else {
         return Ok(None);
     };
-    let likely = likely_position(alloc, &tree, &plant)?;
-    let Some(found) = fault_span(alloc, text, &plant, likely)? else {
+    let Some(span) = fault_span(alloc, text, &plant)? else {
         return Ok(None);
     };
-    let (start, end) = (found.start, found.end);
-    let own = tokens_within(&tokens, Span { start, end });
-    let found = FaultyNode {
-        fault: found.fault,
-        node: found.node,
-        position: found.position,
-    };
-    let word = fault_word(alloc, &tree, &plant, found, own)?;
-    Ok(Some(CheckPlace { found, word }))
-}
-
-/// How much of a ruleset is likely read before the node with which it gets its fault: by halves, of
-/// which the second one is taken where the first one has no fault.
-fn likely_position(alloc: Global, tree: &Ruleset, plant: &Plant) -> Result<usize, AllocError> {
-    let (mut start, mut end) = (0, ruleset_parts(tree));
-    while end - start > 1 {
-        let middle = start + (end - start) / 2;
-        let half = ruleset_between(alloc, tree, start, middle)?;
-        if least_fault(alloc, &half, plant)?.is_some() {
-            end = middle;
-        } else {
-            start = middle;
-        }
-    }
-    Ok(declarations(tree).saturating_add(start))
+    let (start, end) = (span.start, span.end);
+    let own = tokens_within(&span.tokens, Span { start, end });
+    let word = fault_word(alloc, &span.tree, &plant, span.found, own)?;
+    Ok(Some(CheckPlace { span, word }))
 }
 
 /// The word at which the fault of a node of a ruleset is shown, which has these tokens: by default the

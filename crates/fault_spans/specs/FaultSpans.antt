@@ -4,7 +4,7 @@ use Rattle.nft_lexer.specs.declared.token.Token.{Token}
 use Rattle.nft_lexer.specs.Lexing.{TokenizesTo}
 use Rattle.nft_lexer.specs.Places.{AllStand}
 use Rattle.nft_lexer.specs.TokenViews.{spelled, terminals}
-use Rattle.nft_tree.specs.Tree.{TableTree}
+use Rattle.nft_tree.specs.TreeViews.{tables_of}
 use Rattle.nft_rulesets.specs.Rulesets.{SpellsRuleset}
 use Rattle.box_file.specs.Box.{PlantTree}
 use Rattle.node_spans.specs.declared.token_range.TokenRange.{TokenRange}
@@ -22,14 +22,12 @@ pub record AreBytesOf (tokens : List Token) (r : TokenRange) (start end : ℕ) :
   pub ends : end ≡ last.start + length last.text.now
 
 -- The text is one of a ruleset that gets the fault with this node, and the bytes are those of the node's tokens.
-pub record IsFaultSpan (text : List ℕ) (plant : PlantTree) (found : FaultSpan) : Type 0 where
-  pub tokens : List Token
-  pub tokenized : TokenizesTo text (map spelled tokens)
-  pub stand : AllStand text [] tokens
-  pub tables : List TableTree
-  pub reads : SpellsRuleset tables (terminals tokens)
-  pub completes : CompletesFault found.fault found.node tables plant
-  pub read_before : found.position ≡ position tables found.node
+pub record IsFaultSpan (text : List ℕ) (plant : PlantTree) (span : FaultSpan) : Type 0 where
+  pub tokenized : TokenizesTo text (map spelled span.tokens.items)
+  pub stand : AllStand text [] span.tokens.items
+  pub reads : SpellsRuleset (tables_of span.tree) (terminals span.tokens.items)
+  pub completes : CompletesFault span.found.fault span.found.node (tables_of span.tree) plant
+  pub read_before : span.found.position ≡ position (tables_of span.tree) span.found.node
   pub range : TokenRange
-  pub stands : NodeStands tokens tables found.node range
-  pub bytes : AreBytesOf tokens range found.start found.end
+  pub stands : NodeStands span.tokens.items (tables_of span.tree) span.found.node range
+  pub bytes : AreBytesOf span.tokens.items range span.start span.end

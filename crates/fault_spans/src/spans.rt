@@ -7,37 +7,37 @@ ghost use Rattle.fault_spans.specs.FaultSpans.{IsFaultSpan};
 
 use crate::ranges::node_range;
 use box_file::Plant;
-use fault_nodes::{FaultyNode, Node, first_fault};
-use nft_lexer::{LexError, lex};
+use fault_nodes::{FaultyNode, declarations, first_fault, ruleset_between, ruleset_parts};
+use nft_lexer::{LexError, Token, lex};
 use nft_rulesets::ruleset;
-use rule_check::CheckFault;
+use nft_tree::Ruleset;
+use rule_check::least_fault;
 use std::alloc::{AllocError, Global};
 
-/// A fault of a ruleset as a whole, the node with which the ruleset gets it, and the bytes of that
-/// in the text: from `start` up to `end`.
-#[derive(Clone, Copy)]
-pub struct FaultSpan {
-    pub fault: CheckFault,
-    pub node: Node,
-    /// How many declarations and parts are read before the node.
-    pub position: usize,
+/// A ruleset that has a fault as a whole, the node with which it gets that, and the bytes of the
+/// node in the text: from `start` up to `end`.
+#[derive(Drop)]
+pub struct FaultSpan<'t> {
+    /// The tokens of the text.
+    pub tokens: Vec<Token<'t>>,
+    /// The ruleset that they spell.
+    pub tree: Ruleset,
+    pub found: FaultyNode,
     pub start: usize,
     pub end: usize,
 }
 
 /// Where the fault of a ruleset stands in its text. `None` where it has none on the box, or where
-/// the text is no ruleset. `likely` is a guess of how many declarations and parts are read before
-/// the node; the answer is the same by any.
+/// the text is no ruleset.
 ///
 /// # Errors
 ///
 /// `AllocError` if an allocation was refused.
-pub fn fault_span(
+pub fn fault_span<'t>(
     alloc: Global,
-    text: &[u8],
+    text: &'t [u8],
     plant: &Plant,
-    likely: usize,
-) -> Result<Option<FaultSpan>, AllocError>
+) -> Result<Option<FaultSpan<'t>>, AllocError>
     ensures found { IfOk result (λ o. IfSome o (IsFaultSpan text.now plant.now)) }
     ensures none { (tables : List TableTree) → Spells tables text.now
         → IfOk result (λ o. o ≡ None → WellFormed tables plant.now) }
@@ -50,15 +50,11 @@ pub fn fault_span(
     let Some(tree) = ruleset(alloc, &tokens)? else {
         return Ok(None);
     };
+    let likely = likely_position(alloc, &tree, plant)?;
     let Some(found) = first_fault(alloc, &tree, plant, likely)? else {
         return Ok(None);
     };
-    let FaultyNode {
-        fault,
-        node,
-        position,
-    } = found;
-    let Some(range) = node_range(alloc, &tokens, node)? else {
+    let Some(range) = node_range(alloc, &tokens, found.node)? else {
         return Ok(None);
     };
     let Some(first) = tokens.get(range.first) else {
@@ -67,11 +63,29 @@ pub fn fault_span(
     let Some(last) = tokens.get(range.end.saturating_sub(1)) else {
         return Ok(None);
     };
+    let (start, end) = (first.start, last.start + last.text.len());
     Ok(Some(FaultSpan {
-        fault,
-        node,
-        position,
-        start: first.start,
-        end: last.start + last.text.len(),
+        tokens,
+        tree,
+        found,
+        start,
+        end,
     }))
+}
+
+/// How much of a ruleset is likely read before the node with which it gets its fault: by halves, of
+/// which the second one is taken where the first one has no fault. A guess saves time: the answer is
+/// the same by any.
+fn likely_position(alloc: Global, tree: &Ruleset, plant: &Plant) -> Result<usize, AllocError> {
+    let (mut start, mut end) = (0, ruleset_parts(tree));
+    while end - start > 1 {
+        let middle = start + (end - start) / 2;
+        let half = ruleset_between(alloc, tree, start, middle)?;
+        if least_fault(alloc, &half, plant)?.is_some() {
+            end = middle;
+        } else {
+            start = middle;
+        }
+    }
+    Ok(declarations(tree).saturating_add(start))
 }

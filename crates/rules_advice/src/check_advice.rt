@@ -9,8 +9,6 @@ use advice::{
     Advice, Gap, VERDICTS, begins_match, fixed, greatest_is, lists, with_text, with_texts,
 };
 use fault_nodes::FaultyNode;
-use fault_places::tokens_of;
-use nft_rulesets::ruleset;
 use rule_check::CheckFault;
 use std::alloc::{AllocError, Global};
 
@@ -20,21 +18,12 @@ use std::alloc::{AllocError, Global};
 /// `AllocError` for want of memory.
 pub fn put_advice_on_rules(
     alloc: Global,
-    text: &[u8],
+    source: Source<'_>,
     plant: &[u8],
     found: FaultyNode,
     offset: usize,
     lines: &mut String,
 ) -> Result<(), AllocError> {
-    let tokens = tokens_of(alloc, text)?;
-    let Some(tree) = ruleset(alloc, &tokens)? else {
-        return Ok(());
-    };
-    let source = Source {
-        text,
-        tokens: &tokens,
-        tree: &tree,
-    };
     if let CheckFault::DuplicateName = found.fault {
         return put_duplicate(alloc, source, found.node, lines);
     }

@@ -13,5 +13,6 @@ mod type_advice;
 mod types;
 mod value_advice;
 
+pub use around::Source;
 pub use box_advice::put_advice_on_box;
 pub use check_advice::put_advice_on_rules;

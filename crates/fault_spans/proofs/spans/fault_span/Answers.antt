@@ -70,8 +70,8 @@ returns-in_default-get-2-clause-none c given s none fault wrong =
     let past = rw c.deref-4.ensures.value at (ltb-false _ _ (sym c.in_default-get-2.ensures.lookup.0)) in
     absurd (omega (arith, has.0, has.1, past, c.saturating_sub.ensures))
 
-pub overflow_add-result : goal.overflow_add-result
-overflow_add-result c =
+pub overflow_add-end : goal.overflow_add-end
+overflow_add-end c =
     let tokens = c.in-Ok.tokens.items in
     let last = c.in-Some-get-2.last.now in
     let lt = rw c.deref-4.ensures.value at (ltb-true _ _ (sym c.in-Some-get-2.ensures.lookup.0)) in
@@ -101,10 +101,8 @@ returns-clause-found c =
     let lt-2 = rw c.deref-4.ensures.value at (ltb-true _ _ (sym c.in-Some-get-2.ensures.lookup.0)) in
     let is-2 = rw c.deref-4.ensures.value at c.in-Some-get-2.ensures.lookup.1 in
     record {
-      tokens = tokens;
       tokenized = c.in-Ok.ensures.found;
       stand = c.in-Ok.ensures.places;
-      tables = tables;
       reads = read;
       completes = done;
       read_before = IfSome_at c.in_ok-found.field-0 (λ f. f.position ≡ position tables f.node) c.in-Some-2.found
