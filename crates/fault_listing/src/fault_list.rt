@@ -113,14 +113,15 @@ impl<'a> FaultList<'a> {
         self.is_partial = plant.is_none();
         let mut left = self.text.to_vec(self.alloc)?;
         for _ in 0..MOST {
-            match lex(self.alloc, &left) {
+            let fault = match lex(self.alloc, &left) {
                 Ok(tokens) => {
                     self.list_rules(&tokens, plant.as_ref())?;
                     return self.write_to(lines, &tokens);
                 }
-                Err(LexError::Refused(fault)) => self.mark_byte(&mut left, fault)?,
+                Err(LexError::Refused(fault)) => fault,
                 Err(LexError::Memory) => return Err(AllocError),
-            }
+            };
+            self.mark_byte(&mut left, fault)?;
             if self.is_stuck {
                 break;
             }
