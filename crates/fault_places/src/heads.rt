@@ -153,12 +153,13 @@ impl<'a> Scan<'a> {
         if name.is_empty() {
             (family, name, brace) = ("ip", family, 2);
         }
-        let is_named = self.word(table, 0) == "table" && !name.is_empty();
+        let is_named = self.word(table, 0) == "table" && !family.is_empty() && !name.is_empty();
         if !is_named || !self.has_brace(table, brace) {
             return Ok(line);
         }
         write!(line, "table {family} {name}")?;
         if let Some(item) = self.begun[1]
+            && !self.word(item, 0).is_empty()
             && !self.word(item, 1).is_empty()
         {
             write!(line, ", {} {}", self.word(item, 0), self.word(item, 1))?;
