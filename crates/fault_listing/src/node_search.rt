@@ -40,32 +40,35 @@ pub fn faulty_nodes<'a>(
     let declared = ruleset_between(alloc, tree, 0, 0)?;
     match first_fault(alloc, &declared, plant, 0)? {
         Some(found) => search.found.push(found)?,
-        None => search.search(0, ruleset_parts(tree))?,
+        None => {
+            let _ = search.search(0, ruleset_parts(tree))?;
+        }
     }
     Ok(search.found)
 }
 
 impl<'a> NodeSearch<'a> {
     /// Searches a range of parts (rules, statements and elements), by their numbers in text order,
-    /// `end` exclusive, which are refused together.
-    fn search(&mut self, start: usize, end: usize) -> Result<(), AllocError> {
+    /// `end` exclusive, and returns whether they are refused together.
+    fn search(&mut self, start: usize, end: usize) -> Result<bool, AllocError> {
         if self.found.len() >= MOST {
-            return Ok(());
+            return Ok(true);
         }
-        let size = end.saturating_sub(start);
-        let middle = start.saturating_add(size / 2);
-        let mut is_of_half = false;
-        for (first, behind) in [(start, middle), (middle, end)] {
-            let is_half = first < behind && behind.saturating_sub(first) < size;
-            if is_half && self.is_refused(first, behind)? {
-                self.search(first, behind)?;
-                is_of_half = true;
+        let middle = start.saturating_add(end.saturating_sub(start) / 2);
+        if start < middle && middle < end {
+            let first = self.is_refused(start, middle)? && self.search(start, middle)?;
+            // Where the first half is accepted, the fault is likely one of the second.
+            let is_likely = !first || self.is_refused(middle, end)?;
+            let second = is_likely && self.search(middle, end)?;
+            if first || second {
+                return Ok(true);
             }
         }
-        if is_of_half {
-            return Ok(());
+        let is_refused = self.is_refused(start, end)?;
+        if is_refused {
+            self.add_completing(start, end)?;
         }
-        self.add_completing(start, end)
+        Ok(is_refused)
     }
 
     /// Whether the parts of a range are refused together.
