@@ -104,7 +104,8 @@ impl<'t> Subject<'t> {
     }
 }
 
-/// A number between two others: behind or at the likely one where that is, or else in the middle.
+/// A number between two others: behind or at the likely one where that is, before it where it was
+/// too late, at four times the distance each time, or else in the middle.
 fn between(without: usize, with: usize, likely: usize) -> usize
     requires { without + 1 < with }
     ensures { (without < result) × (result < with) }
@@ -115,6 +116,11 @@ fn between(without: usize, with: usize, likely: usize) -> usize
     }
     if without < likely && likely < with {
         return likely;
+    }
+    let distance = behind.saturating_sub(with).saturating_mul(3);
+    let before = with.saturating_sub(distance);
+    if without < before && before < with {
+        return before;
     }
     without + (with - without) / 2
 }

@@ -50,7 +50,7 @@ pub fn fault_span<'t>(
     let Some(tree) = ruleset(alloc, &tokens)? else {
         return Ok(None);
     };
-    let likely = likely_position(alloc, &tree, plant)?;
+    let likely = Guess { tree: &tree, plant }.position(alloc)?;
     let Some(found) = first_fault(alloc, &tree, plant, likely)? else {
         return Ok(None);
     };
@@ -73,19 +73,67 @@ pub fn fault_span<'t>(
     }))
 }
 
-/// How much of a ruleset is likely read before the node with which it gets its fault: by halves, of
-/// which the second one is taken where the first one has no fault. A guess saves time: the answer is
-/// the same by any.
-fn likely_position(alloc: Global, tree: &Ruleset, plant: &Plant) -> Result<usize, AllocError> {
-    let (mut start, mut end) = (0, ruleset_parts(tree));
-    while end - start > 1 {
-        let middle = start + (end - start) / 2;
-        let half = ruleset_between(alloc, tree, start, middle)?;
-        if least_fault(alloc, &half, plant)?.is_some() {
-            end = middle;
-        } else {
-            start = middle;
+/// A ruleset on a box, whose fault is guessed to be somewhere. A guess saves time: the answer is the
+/// same by any.
+#[derive(Clone, Copy)]
+struct Guess<'t> {
+    tree: &'t Ruleset,
+    plant: &'t Plant,
+}
+
+impl<'t> Guess<'t> {
+    /// How much of the ruleset is likely read before the node with which it gets its fault. The parts
+    /// of a fault of several, as of nested jumps, are looked for at the ruleset's end.
+    fn position(&self, alloc: Global) -> Result<usize, AllocError> {
+        let total = ruleset_parts(self.tree);
+        let mut likely = self.completing(alloc, 0, total, false)?;
+        if !self.has_fault(alloc, likely, likely.saturating_add(1))?
+            && let Some(first) = self.last_with_fault(alloc, total)?
+        {
+            likely = self.completing(alloc, first, total, true)?;
         }
+        Ok(declarations(self.tree).saturating_add(likely))
     }
-    Ok(declarations(tree).saturating_add(start))
+
+    /// The part with which those in `from..to` likely get their fault: by halves, of which the second
+    /// one is taken where the first one has none. Each half is judged `together` with those before it,
+    /// or alone.
+    fn completing(
+        &self,
+        alloc: Global,
+        from: usize,
+        to: usize,
+        together: bool,
+    ) -> Result<usize, AllocError> {
+        let (mut start, mut end) = (from.min(to), to);
+        while end - start > 1 {
+            let middle = start + (end - start) / 2;
+            let first = if together { from } else { start };
+            if self.has_fault(alloc, first, middle)? {
+                end = middle;
+            } else {
+                start = middle;
+            }
+        }
+        Ok(start)
+    }
+
+    /// The first of some last parts that have a fault, up to half of all.
+    fn last_with_fault(&self, alloc: Global, total: usize) -> Result<Option<usize>, AllocError> {
+        let mut count = 1usize;
+        while count < total / 2 {
+            let first = total - count;
+            if self.has_fault(alloc, first, total)? {
+                return Ok(Some(first));
+            }
+            count = count.saturating_mul(2);
+        }
+        Ok(None)
+    }
+
+    /// Whether the ruleset has a fault with these parts alone.
+    fn has_fault(&self, alloc: Global, from: usize, to: usize) -> Result<bool, AllocError> {
+        let some = ruleset_between(alloc, self.tree, from, to)?;
+        Ok(least_fault(alloc, &some, self.plant)?.is_some())
+    }
 }

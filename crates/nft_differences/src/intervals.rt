@@ -34,7 +34,10 @@ fn name_number(name: &[u8], filler: u8) -> u128 {
 /// What a name with a last `*` has before it.
 pub(crate) fn wildcard_stem(value: &Value) -> Option<&[u8]> {
     match value {
-        Value::String(text) => text.strip_suffix(b"*"),
+        Value::String(text) => match text.as_slice() {
+            [stem @ .., b'*'] => Some(stem),
+            _ => None,
+        },
         _ => None,
     }
 }

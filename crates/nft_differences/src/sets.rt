@@ -97,7 +97,8 @@ impl Findings<'_> {
         let count = self.judge_elements(list, &places, kind, is_merged, is_apart)?;
         // One that is constant isn't filled up, and 0 is no limit.
         if let Some(size) = size
-            && (1..count as u64).contains(&size)
+            && 0 < size
+            && size < count as u64
             && !has_flag(flags, SetFlag::Constant)
         {
             self.add_at_word(range, b"size", warning::TOO_MANY_ELEMENTS);
@@ -168,7 +169,9 @@ impl Findings<'_> {
             Value::Word(word) if is_reserved_interface(word, in_list) => {
                 self.add(place, warning::RESERVED_NAME);
             }
-            Value::String(name) if name.len() > MOST_OF_WILDCARD && name.ends_with(b"*") => {
+            Value::String(name)
+                if name.len() > MOST_OF_WILDCARD && wildcard_stem(value).is_some() =>
+            {
                 self.add(place, warning::LONG_WILDCARD);
             }
             _ => {}

@@ -1,5 +1,5 @@
 use Rattle.std.proofs.Common.{◌-◌, ◌≤◌}
-use Rattle.fault_spans.proofs.spans.likely_position.Given as goal
+use Rattle.fault_spans.proofs.spans.Guess.completing.Given as goal
 
 abbrev pub invariant-loop-end : goal.invariant-loop-end
 invariant-loop-end l = l.start ≤ l.end
