@@ -57,10 +57,10 @@ impl HookRuns {
     /// `AllocError` for want of memory; the ruleset is dropped then.
     pub fn new(alloc: Global, checked: Checked) -> Result<(Self, Events), AllocError>
         ensures rules { IfOk result (λ made. made.0.rules ≡ checked.rules) }
-        ensures plant { IfOk result (λ made. made.0.plant ≡ checked.plant) }
+        ensures network { IfOk result (λ made. made.0.network ≡ checked.network) }
         // One step for each statement of the rules that packets get to.
         ensures steps { IfOk result (λ made.
-            AreTableCodes checked.plant checked.rules made.0.code.tables.items) }
+            AreTableCodes checked.network checked.rules made.0.code.tables.items) }
         ensures starts { IfOk result (λ made. (stage : HookStage)
             → AreStarts checked made.0.code (chains_in_stage stage)
             (stage_starts made.0.starts stage)) }
@@ -89,7 +89,7 @@ impl HookRuns {
     /// The ruleset, and the box that it was checked for.
     pub fn checked(&self) -> &Checked
         ensures rules { result.now.rules ≡ self.now.rules }
-        ensures plant { result.now.plant ≡ self.now.plant }
+        ensures network { result.now.network ≡ self.now.network }
     {
         &self.checked
     }
@@ -109,7 +109,7 @@ impl HookRuns {
     #[inline(always)]
     pub fn run(&self, stage: HookStage, facts: &mut Facts, events: &mut Events) -> HookVerdict
         requires room { length events.old.events + stage_cost self.now stage ≤ 65536 }
-        ensures end { Stage stage self.now.plant self.now.rules facts.old events.old.events
+        ensures end { Stage stage self.now.network self.now.rules facts.old events.old.events
             (record { verdict = result; facts = facts.new; events = events.new.events }) }
         ensures events { length events.new.events
             ≤ length events.old.events + stage_cost self.now stage }

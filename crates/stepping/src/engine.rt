@@ -328,7 +328,7 @@ impl<T: Tracker> Engine<T> {
 
     /// The law that the ruleset is well-formed. It does nothing.
     pub fn judged(&self)
-        ensures { WellFormed self.now.setup.rules self.now.setup.plant }
+        ensures { WellFormed self.now.setup.rules self.now.setup.network }
     {
         self.setup.hooks.checked().known_bounds();
     }

@@ -130,7 +130,7 @@ costs_of p = record {
 abbrev pub costed_tree : CheckedTree → Code → StagedChains → CostedTree
 costed_tree checked code p = record {
   rules = checked.rules;
-  plant = checked.plant;
+  network = checked.network;
   code = code;
   starts = starts_in p;
   costs = costs_of p;

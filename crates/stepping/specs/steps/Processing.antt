@@ -83,7 +83,7 @@ pub record Follows (now : ℕ) (p : List ℕ) (r : StepResult) (begun : Bool) (o
 pub record HasProcessedPacket (setup : Setup) (a : ReceivedPacket) (now : ℕ) (old new : List ConntrackEntry)
     (ended : RecordResult) (events : List Event) (packet : List ℕ) : Type 0 where
   pub r : StepResult
-  pub path : Path setup old a.packet (on_arrival a.packet (interface_facts setup.plant a.interface)) r
+  pub path : Path setup old a.packet (on_arrival a.packet (interface_facts setup.network a.interface)) r
   pub follows : Follows now a.packet r ended.begun old new
   pub ends : ended.outcome ≡ outcome_of r
   pub long : ended.length ≡ total_len a.packet

@@ -13,7 +13,7 @@ use Rattle.stepping.specs.Paths.{PathState, StepResult, Continue, Drop, Step}
 
 -- the configuration of compiled chains
 abbrev pub setup_in : CostedTree → Setup
-setup_in runs = record { rules = runs.rules; plant = runs.plant }
+setup_in runs = record { rules = runs.rules; network = runs.network }
 
 -- a packet with its events
 abbrev pub path_state : PacketState → EventsAndTicks → PathState
