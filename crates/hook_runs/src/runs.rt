@@ -8,6 +8,7 @@ ghost use Rattle.code_layout.specs.CodeLayout.{AreTableCodes};
 ghost use Rattle.rule_meaning.specs.declared.stage.HookStage.{HookStage};
 ghost use Rattle.hook_runs.specs.Stages.{total_stage_cost, stage_cost, stage_starts};
 ghost use Rattle.hook_runs.specs.StageCode.{AreStarts, stage_started};
+ghost use Rattle.filter_vm.specs.declared.events.TheConstants.{MOST_EVENTS};
 
 use crate::events::Events;
 use crate::running::run_in_order;
@@ -97,7 +98,7 @@ impl HookRuns {
     /// States, for proofs, that all stages together cost at most the limit on a record's events. The
     /// call does nothing.
     pub fn costs(&self)
-        ensures { total_stage_cost self.now ≤ 65536 }
+        ensures { total_stage_cost self.now ≤ MOST_EVENTS }
     {
         let _ = &self.code;
     }
@@ -108,7 +109,7 @@ impl HookRuns {
     /// the stage costs.
     #[inline(always)]
     pub fn run(&self, stage: HookStage, facts: &mut Facts, events: &mut Events) -> HookVerdict
-        requires room { length events.old.events + stage_cost self.now stage ≤ 65536 }
+        requires room { length events.old.events + stage_cost self.now stage ≤ MOST_EVENTS }
         ensures end { Stage stage self.now.network self.now.rules facts.old events.old.events
             (record { verdict = result; facts = facts.new; events = events.new.events }) }
         ensures events { length events.new.events

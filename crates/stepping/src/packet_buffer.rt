@@ -1,6 +1,7 @@
 //! The buffer of the packet that leaves.
 ghost use Rattle.std.specs.Prelude.{◌≡◌, ◌≤◌, [], length, IfOk};
 ghost use Rattle.rewrite.specs.Rewritten.{rewritten};
+ghost use Rattle.stepping.specs.declared.packet_buffer.TheConstants.{MOST_PACKET_BYTES};
 
 use ip_headers::View;
 use rewrite::{Change, rewrite_packet};
@@ -27,7 +28,8 @@ impl Model for PacketBuffer {
     ghost view = { λ b. take b.len b.bytes.items };
 
     ghost invariant = { λ b. (b.len ≤ length b.bytes.items)
-        × (length b.bytes.items ≡ 65535) × (vec_capacity b.bytes ≡ 65535) };
+        × (length b.bytes.items ≡ MOST_PACKET_BYTES)
+        × (vec_capacity b.bytes ≡ MOST_PACKET_BYTES) };
 }
 
 impl PacketBuffer {
@@ -49,7 +51,7 @@ impl PacketBuffer {
     #[inline(always)]
     pub fn as_slice(&self) -> &[u8]
         ensures bytes { result.now ≡ self.now }
-        ensures short { length result.now ≤ 65535 }
+        ensures short { length result.now ≤ MOST_PACKET_BYTES }
     {
         &self.bytes[..self.len]
     }

@@ -10,6 +10,7 @@ ghost use Rattle.stepping.specs.Representing.{setup_of};
 ghost use Rattle.stepping.specs.Paths.{RunsStage};
 ghost use Rattle.stepping.specs.steps.Interfaces.{interfaces_of};
 ghost use Rattle.stepping.specs.steps.Steps.{HasRoom, Spends, TakesStep, setup_in};
+ghost use Rattle.filter_vm.specs.declared.events.TheConstants.{MOST_EVENTS};
 
 use crate::interfaces::{find_interface, interface_facts, interfaces_of};
 use crate::state::PacketState;
@@ -29,7 +30,7 @@ pub struct Setup {
     interfaces: Vec<Interface>,
     pub ghost laid_out: { interfaces.items ≡ interfaces_of hooks.network },
     pub ghost enters: { entering ≡ interface_facts hooks.network hooks.network.entering },
-    pub ghost few: { total_stage_cost hooks ≤ 65536 },
+    pub ghost few: { total_stage_cost hooks ≤ MOST_EVENTS },
     pub ghost costs: { (cost : TableTree → Caller → ℕ) → AreAllCosts hooks.rules cost
         → total_stage_cost hooks ≤ ruleset_cost cost hooks.rules },
 }
