@@ -33,7 +33,11 @@ pub fn remarks<R: Read + Drop>(
 }
 
 /// Counts the first records of a capture.
-fn tally_of<R: Read + Drop>(alloc: Global, reader: R, network: &Plant) -> Result<Tally, AllocError> {
+fn tally_of<R: Read + Drop>(
+    alloc: Global,
+    reader: R,
+    network: &Plant,
+) -> Result<Tally, AllocError> {
     let mut tally = Tally::new(alloc);
     let mut reader = Counted::new(reader);
     let Ok(mut capture) = Capture::open(alloc, &mut reader) else {

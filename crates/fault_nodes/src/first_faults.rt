@@ -47,7 +47,11 @@ pub fn first_fault(
     if total == usize::MAX {
         return Err(AllocError);
     }
-    let subject = Subject { tree, network, fault };
+    let subject = Subject {
+        tree,
+        network,
+        fault,
+    };
     let position = subject.completed_at(alloc, total, likely)?;
     Ok(Some(FaultyNode {
         fault,

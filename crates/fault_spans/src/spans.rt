@@ -50,7 +50,11 @@ pub fn fault_span<'t>(
     let Some(tree) = ruleset(alloc, &tokens)? else {
         return Ok(None);
     };
-    let likely = Guess { tree: &tree, network }.position(alloc)?;
+    let likely = Guess {
+        tree: &tree,
+        network,
+    }
+    .position(alloc)?;
     let Some(found) = first_fault(alloc, &tree, network, likely)? else {
         return Ok(None);
     };

@@ -54,6 +54,13 @@ pub fn statement_cases(
     ensures too_large { IfErr result (λ e. e ≡ TooLarge
         → diagrams.new.limit ≤ length diagrams.new.nodes) }
 {
-    let action = action(alloc, setting.network, setting.names, position, stmt, lookups)?;
+    let action = action(
+        alloc,
+        setting.network,
+        setting.names,
+        position,
+        stmt,
+        lookups,
+    )?;
     action_cases(reader, alloc, diagrams, lookups, &action)
 }

@@ -1,7 +1,6 @@
 //! The buffer of the packet that leaves.
 ghost use Rattle.std.specs.Prelude.{◌≡◌, ◌≤◌, [], length, IfOk};
 ghost use Rattle.rewrite.specs.Rewritten.{rewritten};
-ghost use Rattle.stepping.specs.declared.packet_buffer.TheConstants.{MOST_PACKET_BYTES};
 
 use ip_headers::View;
 use rewrite::{Change, rewrite_packet};
@@ -22,6 +21,7 @@ pub struct PacketBuffer {
 
 impl Model for PacketBuffer {
     ghost use Rattle.std.specs.Prelude.{◌≡◌, ◌≤◌, ℕ, List, take, length, vec_capacity};
+    ghost use Rattle.stepping.specs.declared.packet_buffer.TheConstants.{MOST_PACKET_BYTES};
 
     ghost Value = { List ℕ };
 

@@ -34,7 +34,11 @@ pub(crate) fn external_source(
 }
 
 /// The external source of a NAT statement that translates a source.
-fn statement_source(network: &Plant, facts: &Facts, translation: NatAction) -> Option<ExternalSource>
+fn statement_source(
+    network: &Plant,
+    facts: &Facts,
+    translation: NatAction,
+) -> Option<ExternalSource>
     ensures { result ≡ statement_source network.now facts.now translation }
 {
     match translation {
