@@ -33,7 +33,7 @@ pub none_read : (text : List ℕ) (ls : List Line) → lines_in text ≡ None �
 none_read text ls e r = none-some ls (sym e ∙ lines_only text ls r)
 
 abbrev Answer : List ℕ → Type 0
-Answer text = ((plant : PlantTree) × IsBox text plant) ⊎ ((fault : BoxFault) × HasBoxFault text fault)
+Answer text = ((network : PlantTree) × IsBox text network) ⊎ ((fault : BoxFault) × HasBoxFault text fault)
 
 judged : (text : List ℕ) (ls : List Line) → Reads text ls → (o : Option BoxFault) → least_fault text ls ≡ o → Answer text
 judged text ls r None e =

@@ -264,12 +264,12 @@ plant_of lines idle =
     }
 
 -- a text without faults, and the box that it describes
-pub record IsBox (text : List ℕ) (plant : PlantTree) : Type 0 where
+pub record IsBox (text : List ℕ) (network : PlantTree) : Type 0 where
   pub lines : List Line
   pub read : Reads text lines
   pub faultless : least_fault text lines ≡ None
-  pub limits : AreLimits (idles_in lines) plant.idle
-  pub meant : plant ≡ plant_of lines plant.idle
+  pub limits : AreLimits (idles_in lines) network.idle
+  pub meant : network ≡ plant_of lines network.idle
 
 -- ---- lookups
 
@@ -285,23 +285,23 @@ has_index n i = i.index == n
 
 -- some interface has the address
 abbrev pub is_own : PlantTree → ℕ → Bool
-is_own plant a = list_any (has_address a) plant.interfaces
+is_own network a = list_any (has_address a) network.interfaces
 
 -- the index of the interface that has the address
 abbrev pub owner : PlantTree → ℕ → Option ℕ
-owner plant a = option_map (λ i. i.index) (find (has_address a) plant.interfaces)
+owner network a = option_map (λ i. i.index) (find (has_address a) network.interfaces)
 
 -- the first address of the interface in the text
 abbrev pub first_address : PlantTree → ℕ → Option ℕ
-first_address plant n = option_map (λ i. i.address) (find (has_index n) plant.interfaces)
+first_address network n = option_map (λ i. i.address) (find (has_index n) network.interfaces)
 
 -- the index of the interface with this name
 abbrev pub named : PlantTree → List ℕ → Option ℕ
-named plant n = index_of plant.interfaces n
+named network n = index_of network.interfaces n
 
 -- the name of the interface with this index
 abbrev pub name_of : PlantTree → ℕ → Option (List ℕ)
-name_of plant n = option_map (λ i. i.name) (find (has_index n) plant.interfaces)
+name_of network n = option_map (λ i. i.name) (find (has_index n) network.interfaces)
 
 -- the route's prefix contains the address
 abbrev pub covers : ℕ → RouteEntry → Bool
@@ -322,4 +322,4 @@ best_interface routes a = option_map (λ r. r.interface) (best_of (filter (cover
 -- longest prefix match (RFC 1812, section 5.2.4.3), among equals the first in the text; 224.0.0.0 and above
 -- have no route (own)
 abbrev pub route : PlantTree → ℕ → Option ℕ
-route plant a = if nat_lt a 3758096384 then best_interface plant.routes a else None
+route network a = if nat_lt a 3758096384 then best_interface network.routes a else None

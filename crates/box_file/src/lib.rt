@@ -11,8 +11,8 @@ mod idle_line;
 mod laws;
 mod limits;
 mod line;
+mod network;
 mod numbers;
-mod plant;
 mod routes;
 mod words;
 
@@ -20,4 +20,4 @@ pub use fault::{BoxError, BoxFault};
 pub use idle_line::IdleKind;
 pub use laws::{one_box, some_box};
 pub use limits::Limits;
-pub use plant::{IfIndex, Plant};
+pub use network::{IfIndex, Plant};

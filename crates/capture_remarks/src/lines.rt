@@ -22,9 +22,9 @@ pub fn remarks<R: Read + Drop>(
     alloc: Global,
     path: &str,
     reader: R,
-    plant: &Plant,
+    network: &Plant,
 ) -> Result<String, AllocError> {
-    let tally = tally_of(alloc, reader, plant)?;
+    let tally = tally_of(alloc, reader, network)?;
     let mut lines = String::new(alloc);
     tally.write_own_sources(path, &mut lines)?;
     tally.write_missing(path, &mut lines)?;
@@ -33,7 +33,11 @@ pub fn remarks<R: Read + Drop>(
 }
 
 /// Counts the first records of a capture.
-fn tally_of<R: Read + Drop>(alloc: Global, reader: R, plant: &Plant) -> Result<Tally, AllocError> {
+fn tally_of<R: Read + Drop>(
+    alloc: Global,
+    reader: R,
+    network: &Plant,
+) -> Result<Tally, AllocError> {
     let mut tally = Tally::new(alloc);
     let mut reader = Counted::new(reader);
     let Ok(mut capture) = Capture::open(alloc, &mut reader) else {
@@ -44,7 +48,7 @@ fn tally_of<R: Read + Drop>(alloc: Global, reader: R, plant: &Plant) -> Result<T
             break;
         };
         if let Some(record) = capture.record() {
-            tally.note(&record, plant)?;
+            tally.note(&record, network)?;
         }
     }
     Ok(tally)

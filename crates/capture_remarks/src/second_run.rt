@@ -14,7 +14,7 @@ pub(crate) const MOST_RECORDS: u64 = 10_000_000;
 #[derive(Clone, Copy)]
 pub struct Texts<'a> {
     pub rules: &'a [u8],
-    pub plant: &'a [u8],
+    pub network: &'a [u8],
 }
 
 /// A run that is stepped through; what it writes is lost.
@@ -61,7 +61,7 @@ impl<R: Read + Drop, W: Write + Drop> SecondRun<R, W> {
             alloc,
             hasher,
             texts.rules,
-            texts.plant,
+            texts.network,
             &mut capture,
             &mut lost,
         );

@@ -48,7 +48,7 @@ impl Tally {
     }
 
     /// Counts a record.
-    pub(crate) fn note(&mut self, record: &Record<'_>, plant: &Plant) -> Result<(), AllocError> {
+    pub(crate) fn note(&mut self, record: &Record<'_>, network: &Plant) -> Result<(), AllocError> {
         self.records = self.records.saturating_add(1);
         if is_ipv6(record) {
             self.ipv6 = self.ipv6.saturating_add(1);
@@ -57,12 +57,12 @@ impl Tally {
             return Ok(());
         };
         if let Some(index) = link.interface {
-            if plant.name(index).is_none() {
+            if network.name(index).is_none() {
                 return self.note_missing(index);
             }
         }
         if let Some(source) = source_of(&record.bytes[link.packet..]) {
-            if plant.is_own(source) {
+            if network.is_own(source) {
                 self.own_sources = self.own_sources.saturating_add(1);
             }
         }

@@ -56,9 +56,9 @@ statements-long h [] = refl
 statements-long h (x ∷ xs) = ap suc (statements-long h xs)
 
 -- as a program has them
-pub program-rules : (plant : PlantTree) (number : ℕ) (t : TableTree) (c : ℕ)
-    → statements_in (rules_in t c) ≡ unwrap_or ((table_program plant number t).rules_at c) []
-program-rules plant number t c = by (slice_get (chains_of t) c)
+pub program-rules : (network : PlantTree) (number : ℕ) (t : TableTree) (c : ℕ)
+    → statements_in (rules_in t c) ≡ unwrap_or ((table_program network number t).rules_at c) []
+program-rules network number t c = by (slice_get (chains_of t) c)
   where
     by : (o : Option ChainTree) → statements_in (unwrap_or (option_map (λ chain. chain.rules) o) [])
         ≡ unwrap_or (option_map (λ chain. map (λ r. r.statements) chain.rules) o) []

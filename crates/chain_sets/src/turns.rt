@@ -36,7 +36,7 @@ fn state_turns(
     state: Case<Written>,
     visits: &mut Visits,
 ) -> Result<Vec<Case<Turn>>, SetError>
-    requires declared { HasDeclared table.setting.plant.now table.setting.names.now lookups.old }
+    requires declared { HasDeclared table.setting.network.now table.setting.names.now lookups.old }
     requires types { list_any (statement_mismatches table.setting.names.now) (map statement stmts.now)
         ≡ false }
     requires bounds { list_any statement_out_of_range (map statement stmts.now) ≡ false }
@@ -44,7 +44,7 @@ fn state_turns(
     requires visits { AreRuleSets diagrams.old (sets_of visits.old) }
     ensures keeps { Keeps diagrams.old diagrams.new }
     ensures extends { OnOk result (Extends lookups.old lookups.new) }
-    ensures turns { IfOk result (λ turns. GoThrough (table_program table.entry.setting.plant.now
+    ensures turns { IfOk result (λ turns. GoThrough (table_program table.entry.setting.network.now
         rule.table table.entry.setting.names.now) table.entry.interfaces.now rule.chain rule.rule
         (map statement stmts.now) diagrams.old diagrams.new (state ∷ []) turns.items
         (sets_of visits.old) (sets_of visits.new)) }
@@ -76,7 +76,7 @@ pub(crate) fn rule_turns(
     states: &[Case<Written>],
     visits: &mut Visits,
 ) -> Result<Vec<Case<Turn>>, SetError>
-    requires declared { HasDeclared table.setting.plant.now table.setting.names.now lookups.old }
+    requires declared { HasDeclared table.setting.network.now table.setting.names.now lookups.old }
     requires types { list_any (statement_mismatches table.setting.names.now) (map statement stmts.now)
         ≡ false }
     requires bounds { list_any statement_out_of_range (map statement stmts.now) ≡ false }
@@ -84,7 +84,7 @@ pub(crate) fn rule_turns(
     requires visits { AreRuleSets diagrams.old (sets_of visits.old) }
     ensures keeps { Keeps diagrams.old diagrams.new }
     ensures extends { OnOk result (Extends lookups.old lookups.new) }
-    ensures turns { IfOk result (λ turns. GoThrough (table_program table.entry.setting.plant.now
+    ensures turns { IfOk result (λ turns. GoThrough (table_program table.entry.setting.network.now
         rule.table table.entry.setting.names.now) table.entry.interfaces.now rule.chain rule.rule
         (map statement stmts.now) diagrams.old diagrams.new states.now turns.items
         (sets_of visits.old) (sets_of visits.new)) }

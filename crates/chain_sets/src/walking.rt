@@ -42,19 +42,19 @@ fn turn_exits(
     turn: Case<Turn>,
     visits: &mut Visits,
 ) -> Result<Vec<Case<Exit>>, WalkError>
-    requires declared { HasDeclared table.setting.plant.now table.setting.names.now lookups.old }
+    requires declared { HasDeclared table.setting.network.now table.setting.names.now lookups.old }
     requires types { table_mismatches table.setting.names.now ≡ false }
     requires bounds { list_any item_out_of_range table.setting.names.now.items ≡ false }
     requires turn { IsSet diagrams.old turn.set }
     requires visits { AreRuleSets diagrams.old (sets_of visits.old) }
     ensures keeps { Keeps diagrams.old diagrams.new }
     ensures extends { OnOk result (Extends lookups.old lookups.new) }
-    ensures value { IfOk result (λ exits. Leave (table_program table.entry.setting.plant.now
+    ensures value { IfOk result (λ exits. Leave (table_program table.entry.setting.network.now
         table.entry.number table.entry.setting.names.now) table.entry.interfaces.now levels
         diagrams.old diagrams.new (turn ∷ []) exits.items (sets_of visits.old) (sets_of visits.new)) }
     ensures too_large { IfErr result (λ e. e ≡ TooLarge
         → diagrams.new.limit ≤ length diagrams.new.nodes) }
-    ensures too_deep { IfErr result (λ e. e ≡ TooDeep → VerdictNests (table_program table.entry.setting.plant.now
+    ensures too_deep { IfErr result (λ e. e ≡ TooDeep → VerdictNests (table_program table.entry.setting.network.now
         table.entry.number table.entry.setting.names.now)
         levels turn.outcome.verdict) }
 {
@@ -93,19 +93,19 @@ fn rule_exits(
     turns: &[Case<Turn>],
     visits: &mut Visits,
 ) -> Result<Vec<Case<Exit>>, WalkError>
-    requires declared { HasDeclared table.setting.plant.now table.setting.names.now lookups.old }
+    requires declared { HasDeclared table.setting.network.now table.setting.names.now lookups.old }
     requires types { table_mismatches table.setting.names.now ≡ false }
     requires bounds { list_any item_out_of_range table.setting.names.now.items ≡ false }
     requires turns { AreCases diagrams.old turns.now }
     requires visits { AreRuleSets diagrams.old (sets_of visits.old) }
     ensures keeps { Keeps diagrams.old diagrams.new }
     ensures extends { OnOk result (Extends lookups.old lookups.new) }
-    ensures value { IfOk result (λ exits. Leave (table_program table.entry.setting.plant.now
+    ensures value { IfOk result (λ exits. Leave (table_program table.entry.setting.network.now
         table.entry.number table.entry.setting.names.now) table.entry.interfaces.now levels
         diagrams.old diagrams.new turns.now exits.items (sets_of visits.old) (sets_of visits.new)) }
     ensures too_large { IfErr result (λ e. e ≡ TooLarge
         → diagrams.new.limit ≤ length diagrams.new.nodes) }
-    ensures too_deep { IfErr result (λ e. e ≡ TooDeep → SomeTurnNests (table_program table.entry.setting.plant.now
+    ensures too_deep { IfErr result (λ e. e ≡ TooDeep → SomeTurnNests (table_program table.entry.setting.network.now
         table.entry.number table.entry.setting.names.now)
         levels turns.now) }
 {
@@ -130,7 +130,7 @@ fn pass_rule(
     states: &[Case<Written>],
     visits: &mut Visits,
 ) -> Result<Vec<Case<Exit>>, WalkError>
-    requires declared { HasDeclared table.setting.plant.now table.setting.names.now lookups.old }
+    requires declared { HasDeclared table.setting.network.now table.setting.names.now lookups.old }
     requires types { table_mismatches table.setting.names.now ≡ false }
     requires bounds { list_any item_out_of_range table.setting.names.now.items ≡ false }
     requires here { rule.table ≡ table.number }
@@ -141,13 +141,13 @@ fn pass_rule(
     requires visits { AreRuleSets diagrams.old (sets_of visits.old) }
     ensures keeps { Keeps diagrams.old diagrams.new }
     ensures extends { OnOk result (Extends lookups.old lookups.new) }
-    ensures value { IfOk result (λ exits. Pass (table_program table.entry.setting.plant.now
+    ensures value { IfOk result (λ exits. Pass (table_program table.entry.setting.network.now
         table.entry.number table.entry.setting.names.now) table.entry.interfaces.now levels
         rule.chain rule.rule (map statement stmts.now)
         diagrams.old diagrams.new states.now exits.items (sets_of visits.old) (sets_of visits.new)) }
     ensures too_large { IfErr result (λ e. e ≡ TooLarge
         → diagrams.new.limit ≤ length diagrams.new.nodes) }
-    ensures too_deep { IfErr result (λ e. e ≡ TooDeep → RuleNests (table_program table.entry.setting.plant.now
+    ensures too_deep { IfErr result (λ e. e ≡ TooDeep → RuleNests (table_program table.entry.setting.network.now
         table.entry.number table.entry.setting.names.now)
         levels rule.chain rule.rule (map statement stmts.now)) }
 {
@@ -182,19 +182,19 @@ pub(crate) fn walk_chain(
     states: &[Case<Written>],
     visits: &mut Visits,
 ) -> Result<Vec<Case<ChainEnd>>, WalkError>
-    requires declared { HasDeclared table.setting.plant.now table.setting.names.now lookups.old }
+    requires declared { HasDeclared table.setting.network.now table.setting.names.now lookups.old }
     requires types { table_mismatches table.setting.names.now ≡ false }
     requires bounds { list_any item_out_of_range table.setting.names.now.items ≡ false }
     requires states { AreCases diagrams.old states.now }
     requires visits { AreRuleSets diagrams.old (sets_of visits.old) }
     ensures keeps { Keeps diagrams.old diagrams.new }
     ensures extends { OnOk result (Extends lookups.old lookups.new) }
-    ensures value { IfOk result (λ ends. Walk (table_program table.entry.setting.plant.now
+    ensures value { IfOk result (λ ends. Walk (table_program table.entry.setting.network.now
         table.entry.number table.entry.setting.names.now) table.entry.interfaces.now levels chain
         diagrams.old diagrams.new states.now ends.items (sets_of visits.old) (sets_of visits.new)) }
     ensures too_large { IfErr result (λ e. e ≡ TooLarge
         → diagrams.new.limit ≤ length diagrams.new.nodes) }
-    ensures too_deep { IfErr result (λ e. e ≡ TooDeep → NestsOver (table_program table.entry.setting.plant.now
+    ensures too_deep { IfErr result (λ e. e ≡ TooDeep → NestsOver (table_program table.entry.setting.network.now
         table.entry.number table.entry.setting.names.now)
         levels chain) }
 {

@@ -51,20 +51,20 @@ pub fn chain_sets(
     chain: ChainNo,
     set: PacketSet,
 ) -> Result<ChainSets, WalkError>
-    requires declared { HasDeclared setting.plant.now setting.names.now lookups.old }
+    requires declared { HasDeclared setting.network.now setting.names.now lookups.old }
     requires types { table_mismatches setting.names.now ≡ false }
     requires bounds { list_any item_out_of_range setting.names.now.items ≡ false }
     requires set { IsSet diagrams.old set }
     ensures keeps { Keeps diagrams.old diagrams.new }
     ensures extends { OnOk result (Extends lookups.old lookups.new) }
     ensures value { IfOk result (λ sets. (levels : ℕ) → LEVELS ≤ levels → AreOnWays
-        (table_program setting.entry.plant.now chain.table setting.entry.names.now) interfaces.now
-        (way (table_program setting.entry.plant.now chain.table setting.entry.names.now)
+        (table_program setting.entry.network.now chain.table setting.entry.names.now) interfaces.now
+        (way (table_program setting.entry.network.now chain.table setting.entry.names.now)
         levels chain.chain) diagrams.old diagrams.new set (sets_of sets.rules) sets.ends.items) }
     ensures too_large { IfErr result (λ e. e ≡ TooLarge
         → diagrams.new.limit ≤ length diagrams.new.nodes) }
     ensures too_deep { IfErr result (λ e. e ≡ TooDeep → NestsOver
-        (table_program setting.entry.plant.now chain.table setting.entry.names.now)
+        (table_program setting.entry.network.now chain.table setting.entry.names.now)
         LEVELS chain.chain) }
 {
     let state = Case {
@@ -97,21 +97,21 @@ pub fn chain_sets_from(
     chain: ChainNo,
     states: &[Case<Written>],
 ) -> Result<ChainSets, WalkError>
-    requires declared { HasDeclared setting.plant.now setting.names.now lookups.old }
+    requires declared { HasDeclared setting.network.now setting.names.now lookups.old }
     requires types { table_mismatches setting.names.now ≡ false }
     requires bounds { list_any item_out_of_range setting.names.now.items ≡ false }
     requires states { AreCases diagrams.old states.now }
     ensures keeps { Keeps diagrams.old diagrams.new }
     ensures extends { OnOk result (Extends lookups.old lookups.new) }
     ensures value { IfOk result (λ sets. (levels : ℕ) → LEVELS ≤ levels → AreOnWaysFrom
-        (table_program setting.entry.plant.now chain.table setting.entry.names.now) interfaces.now
-        (way (table_program setting.entry.plant.now chain.table setting.entry.names.now)
+        (table_program setting.entry.network.now chain.table setting.entry.names.now) interfaces.now
+        (way (table_program setting.entry.network.now chain.table setting.entry.names.now)
         levels chain.chain) diagrams.old diagrams.new states.now (sets_of sets.rules)
         sets.ends.items) }
     ensures too_large { IfErr result (λ e. e ≡ TooLarge
         → diagrams.new.limit ≤ length diagrams.new.nodes) }
     ensures too_deep { IfErr result (λ e. e ≡ TooDeep → NestsOver
-        (table_program setting.entry.plant.now chain.table setting.entry.names.now)
+        (table_program setting.entry.network.now chain.table setting.entry.names.now)
         LEVELS chain.chain) }
 {
     let table = TableSetting {

@@ -29,21 +29,21 @@ SomeCosts = (tables : List TableTree) (t : TableTree) → (Cycles tables → ⊥
 
 abbrev pub CostsRank : Type 0
 CostsRank =
-    (tables : List TableTree) (plant : PlantTree) → WellFormed tables plant → (number : ℕ) (t : TableTree)
+    (tables : List TableTree) (network : PlantTree) → WellFormed tables network → (number : ℕ) (t : TableTree)
     → slice_get tables number ≡ Some t → (cost : Caller → ℕ) → AreCosts t cost → (depths : List ℕ)
     → AreChainDepths t depths
-    → IsRanking (table_program plant number t) (weight_by cost) (chain_cost_by t cost) (λ c. slice_index depths c)
+    → IsRanking (table_program network number t) (weight_by cost) (chain_cost_by t cost) (λ c. slice_index depths c)
 
 abbrev pub BaseTerminates : Type 0
 BaseTerminates =
-    (tables : List TableTree) (plant : PlantTree) → WellFormed tables plant → (b : BaseChain)
-    → Contains (base_chains_of tables) b → Terminates (RunsBaseChain plant tables b)
+    (tables : List TableTree) (network : PlantTree) → WellFormed tables network → (b : BaseChain)
+    → Contains (base_chains_of tables) b → Terminates (RunsBaseChain network tables b)
 
 module _ (to_end : (p : Program Statement) → RunsToItsEnd p) (decide : CyclesDecidable) (some_costs : SomeCosts) (rank : CostsRank)
-    (terminate : BaseTerminates) (tables : List TableTree) (plant : PlantTree) (well : WellFormed tables plant) (b : BaseChain)
+    (terminate : BaseTerminates) (tables : List TableTree) (network : PlantTree) (well : WellFormed tables network) (b : BaseChain)
     (has : Contains (base_chains_of tables) b) (t : TableTree) (at : slice_get tables b.number.table ≡ Some t) where
   abbrev p : Program Statement
-  p = table_program plant b.number.table t
+  p = table_program network b.number.table t
 
   abbrev cost : TableTree → Caller → ℕ
   cost = all_costs decide some_costs
@@ -56,25 +56,25 @@ module _ (to_end : (p : Program Statement) → RunsToItsEnd p) (decide : CyclesD
 
   falls : Falls p (chain_cost_by t (cost t))
   falls = falling t (λ deep. well faults.TooDeep (record { table = t; member = contained; deep = deep })) p (weight_by (cost t))
-      (chain_cost_by t (cost t)) (rank tables plant well b.number.table t at (cost t) (are t contained))
+      (chain_cost_by t (cost t)) (rank tables network well b.number.table t at (cost t) (are t contained))
 
   module _ (levels : ℕ) (many : MAX_COST < levels) (f : Facts) (es : List Event) where
     abbrev result_of_way : HookResult
     result_of_way = with_policy b.number (policy_of b.head) (run_result p (way p levels b.number.chain f) es)
 
-    is_way : (r : HookResult) → RunsBaseChain plant tables b f es r → r ≡ result_of_way
+    is_way : (r : HookResult) → RunsBaseChain network tables b f es r → r ≡ result_of_way
     is_way r run =
         let same : run.table ≡ t = ap (λ o. unwrap_or o t) (sym run.stands ∙ at) in
-        let stands = subst (λ x. (table_program plant b.number.table x).rules_at b.number.chain ≡ Some run.rules) same run.has in
-        let runs = subst (λ x. Runs (table_program plant b.number.table x) b.number.chain 1 (at_rule run.rules) f es run.after) same run.runs in
+        let stands = subst (λ x. (table_program network b.number.table x).rules_at b.number.chain ≡ Some run.rules) same run.has in
+        let runs = subst (λ x. Runs (table_program network b.number.table x) b.number.chain 1 (at_rule run.rules) f es run.after) same run.runs in
         let cheap = base_cheap tables cost are (well faults.TooCostly) b has t at in
         run.is ∙ ap (with_policy b.number (policy_of b.head)) (along p (to_end p) (chain_cost_by t (cost t)) falls levels b.number.chain
         run.rules stands (omega (arith, cheap, many)) f es run.after runs)
 
-    is_run : (r : HookResult) → r ≡ result_of_way → RunsBaseChain plant tables b f es r
+    is_run : (r : HookResult) → r ≡ result_of_way → RunsBaseChain network tables b f es r
     is_run r is =
-        let q = terminate tables plant well b has f es in
-        subst (RunsBaseChain plant tables b f es) (is_way q.0 q.1 ∙ sym is) q.1
+        let q = terminate tables network well b has f es in
+        subst (RunsBaseChain network tables b f es) (is_way q.0 q.1 ∙ sym is) q.1
 
-  pub base_chain_runs_are_ways : BaseChainRunsAreWays plant tables b t
+  pub base_chain_runs_are_ways : BaseChainRunsAreWays network tables b t
   base_chain_runs_are_ways levels many f es r = (is_way levels many f es r, is_run levels many f es r)

@@ -81,12 +81,12 @@ module _ (place : StatementPosition) where
   acts scope (tree.verdict v) f = refl
   acts scope (tree.nat n) f = given_by (tree.nat n) refl (λ a. Translate a) (nat_action_of scope n f)
 
-module _ (plant : PlantTree) (number : ℕ) (t : TableTree) where
+module _ (network : PlantTree) (number : ℕ) (t : TableTree) where
   abbrev p : Program Statement
-  p = table_program plant number t
+  p = table_program network number t
 
   acts_at : (place : StatementPosition) (s : Statement) (f : Facts) → Acts place s (p.effect_of place s f)
-  acts_at place s f = acts place (record { plant = plant; table = t }) s f
+  acts_at place s f = acts place (record { network = network; table = t }) s f
 
   -- ---- the own events of a rule
 

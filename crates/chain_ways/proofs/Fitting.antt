@@ -56,9 +56,9 @@ in_items (tree.comment x ∷ items) chain has is = let q = in_items items chain 
 in_items (tree.set x ∷ items) chain has is = let q = in_items items chain has is in (q.0, Contains-there (tree.set x) q.0 items q.1, q.2)
 in_items (tree.map_item x ∷ items) chain has is = let q = in_items items chain has is in (q.0, Contains-there (tree.map_item x) q.0 items q.1, q.2)
 
-module _ (plant : PlantTree) (number : ℕ) (t : TableTree) where
+module _ (network : PlantTree) (number : ℕ) (t : TableTree) where
   abbrev p : Program Statement
-  p = table_program plant number t
+  p = table_program network number t
 
   -- rules of the table, where no rule of the tables has a statement behind a terminal one
   module _ (tables : List TableTree) (at : slice_get tables number ≡ Some t) (tidy : list_any has_unreachable_statement tables ≡ true → ⊥) where
@@ -82,13 +82,13 @@ module _ (plant : PlantTree) (number : ℕ) (t : TableTree) where
     record OwnVisit (e : Event) : Type 0 where
       visit : Visit Statement
       member : Contains vs visit
-      is_own : IsOwn plant number t visit.chain visit.rule (rule_end p visit.chain visit.rule 1 visit.statements visit.facts) e
+      is_own : IsOwn network number t visit.chain visit.rule (rule_end p visit.chain visit.rule 1 visit.statements visit.facts) e
 
   own_visits : (vs : List (Visit Statement)) (es : List Event) (e : Event) → Contains (events_of_visits p vs es) e → Contains es e ⊎ OwnVisit vs e
   own_visits [] es e has = inl has
   own_visits (v ∷ vs) es e has =
       elim (own_visits vs (rule_events p v.chain v.rule 1 v.statements v.facts es) e has) [
-        | inl before ↦ elim (own plant number t v.chain v.rule 1 v.statements v.facts es e before) [
+        | inl before ↦ elim (own network number t v.chain v.rule 1 v.statements v.facts es e before) [
           | inl h ↦ inl h
           | inr here ↦ inr (record { visit = v; member = Contains-head v vs; is_own = here })
         ]
@@ -98,7 +98,7 @@ module _ (plant : PlantTree) (number : ℕ) (t : TableTree) where
   kept_visits : (vs : List (Visit Statement)) (es : List Event) (e : Event) → Contains es e → Contains (events_of_visits p vs es) e
   kept_visits [] es e has = has
   kept_visits (v ∷ vs) es e has =
-      kept_visits vs (rule_events p v.chain v.rule 1 v.statements v.facts es) e (kept plant number t v.chain v.rule 1 v.statements v.facts es e has)
+      kept_visits vs (rule_events p v.chain v.rule 1 v.statements v.facts es) e (kept network number t v.chain v.rule 1 v.statements v.facts es e has)
 
   visit_event : (vs : List (Visit Statement)) (v : Visit Statement) → Contains vs v → (e : Event)
       → ((es : List Event) → Contains (rule_events p v.chain v.rule 1 v.statements v.facts es) e) → (es : List Event)
@@ -111,7 +111,7 @@ module _ (plant : PlantTree) (number : ℕ) (t : TableTree) where
         | inr later ↦ visit_event xs v later e given (rule_events p x.chain x.rule 1 x.statements x.facts es)
       ]
 
-  rule_is : (c n : ℕ) (end : RuleEnd) (e : Event) (r : RuleNo) → IsOwn plant number t c n end e → rule_of_event e ≡ Some r → r ≡ rule_no p c n
+  rule_is : (c n : ℕ) (end : RuleEnd) (e : Event) (r : RuleNo) → IsOwn network number t c n end e → rule_of_event e ≡ Some r → r ≡ rule_no p c n
   rule_is c n end (Counted place) r is_own is = ap (λ o. unwrap_or o r) (sym is) ∙ is_own
   rule_is c n end (Logged place) r is_own is = ap (λ o. unwrap_or o r) (sym is) ∙ is_own
   rule_is c n end (TookVerdict rule d) r is_own is = ap (λ o. unwrap_or o r) (sym is) ∙ is_own.0
@@ -158,7 +158,7 @@ module _ (plant : PlantTree) (number : ℕ) (t : TableTree) where
         let e = TookVerdict (rule_no p c n) d in
         let q = its_visit c n e has refl in
         let v = q.visit in
-        let is_met = met plant number t v.chain v.rule 1 v.statements v.facts d (tidy v.chain v.rule v.statements (of_rules v q.member)) q.is_own.1 in
+        let is_met = met network number t v.chain v.rule 1 v.statements v.facts d (tidy v.chain v.rule v.statements (of_rules v q.member)) q.is_own.1 in
         let chain : v.chain ≡ c = same_chain c n e has refl in
         let rule : v.rule ≡ n = same_number c n e has refl in
         any_of (λ x. is_of_rule c n x && (rule_end p c n 1 x.statements x.facts).met) w.visits v q.member
@@ -188,7 +188,7 @@ module _ (plant : PlantTree) (number : ℕ) (t : TableTree) where
         counts : (i j : ℕ) (start : Option CounterStart) (rest : List Statement) (f : Facts) (before : List Event)
             → Contains (rule_events p i j 1 (tree.counter start ∷ rest) f before) (Counted (statement_position p i j 1))
         counts i j start rest f before =
-            kept plant number t i j 2 rest f (before ++ Counted (statement_position p i j 1) ∷ []) (Counted (statement_position p i j 1))
+            kept network number t i j 2 rest f (before ++ Counted (statement_position p i j 1) ∷ []) (Counted (statement_position p i j 1))
             (Contains-append_right before (Counted (statement_position p i j 1) ∷ []) (Counted (statement_position p i j 1))
             (Contains-head (Counted (statement_position p i j 1)) []))
 
@@ -200,12 +200,12 @@ module _ (plant : PlantTree) (number : ℕ) (t : TableTree) where
         let parts = and_parts (is_of_rule c n v) (rule_end p c n 1 v.statements v.facts).met q.2 in
         let numbers = rule_of c n v parts.0 in
         let same = statements c n (before ++ s ∷ []) at v q.1 numbers.0 numbers.1 in
-        let gives = ends_given plant number t v.chain v.rule 1 before s v.facts terminal
+        let gives = ends_given network number t v.chain v.rule 1 before s v.facts terminal
         (ap₂ (λ i j. (rule_end p i j 1 (before ++ s ∷ []) v.facts).met) numbers.0 numbers.1
         ∙ ap (λ ss. (rule_end p c n 1 ss v.facts).met) (sym same) ∙ parts.1) in
         let giving = λ (later : List Event). subst
         (λ ss. Contains (rule_events p v.chain v.rule 1 ss v.facts later) (TookVerdict (rule_no p v.chain v.rule) gives.0)) (sym same)
-        (gave plant number t v.chain v.rule 1 (before ++ s ∷ []) v.facts later gives.0 gives.1) in (
+        (gave network number t v.chain v.rule 1 (before ++ s ∷ []) v.facts later gives.0 gives.1) in (
           gives.0,
           all (TookVerdict (rule_no p c n) gives.0) (subst (λ r. Contains (events_of_visits p w.visits []) (TookVerdict r gives.0))
               (ap₂ (rule_no p) numbers.0 numbers.1)
@@ -228,16 +228,16 @@ module _ (plant : PlantTree) (number : ℕ) (t : TableTree) where
   with_all chain policy es (ended f) e has = Contains-append_left es (TookPolicy chain policy ∷ []) e has
   with_all chain policy es (over verdict f) e has = has
 
-module _ (tables : List TableTree) (plant : PlantTree) (well : WellFormed tables plant) (b : BaseChain) (t : TableTree)
-    (at : slice_get tables b.number.table ≡ Some t) (agree : BaseChainRunsAreWays plant tables b t) where
-  pub base_chain_events_fit_ways : BaseChainEventsFitWays plant tables b t
+module _ (tables : List TableTree) (network : PlantTree) (well : WellFormed tables network) (b : BaseChain) (t : TableTree)
+    (at : slice_get tables b.number.table ≡ Some t) (agree : BaseChainRunsAreWays network tables b t) where
+  pub base_chain_events_fit_ways : BaseChainEventsFitWays network tables b t
   base_chain_events_fit_ways levels many f r run =
-      let chain_program = table_program plant b.number.table t in
+      let chain_program = table_program network b.number.table t in
       let w = way chain_program levels b.number.chain f in
       let own_events = events_of_visits chain_program w.visits [] in
       subst (EventsFitWay chain_program w) (sym (ap (λ (x : HookResult). x.events) ((agree levels many f [] r).0 run)))
-      (fits plant b.number.table t w (visits_are_of_rules chain_program levels b.number.chain f)
-      (ends_last plant b.number.table t tables at (well faults.StatementAfterVerdict))
+      (fits network b.number.table t w (visits_are_of_rules chain_program levels b.number.chain f)
+      (ends_last network b.number.table t tables at (well faults.StatementAfterVerdict))
       (with_policy b.number (policy_of b.head) (run_result chain_program w [])).events
-      (only_policy plant b.number.table t b.number (policy_of b.head) own_events w.end)
-      (with_all plant b.number.table t b.number (policy_of b.head) own_events w.end))
+      (only_policy network b.number.table t b.number (policy_of b.head) own_events w.end)
+      (with_all network b.number.table t b.number (policy_of b.head) own_events w.end))

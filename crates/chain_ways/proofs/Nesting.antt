@@ -10,22 +10,22 @@ use Rattle.chain_ways.specs.Nesting.{NestsOver, SomeNestsOver}
 
 module _ (most : ℕ) where
   -- from one of this table on
-  pub nests_here : (plant : PlantTree) (tables : List TableTree) (bases : List BaseChain) (b : BaseChain) (names : TableTree)
-      → slice_get tables b.number.table ≡ Some names → Contains bases b → NestsOver (table_program plant b.number.table names) most b.number.chain
-      → SomeNestsOver most plant tables bases
-  nests_here plant tables bases b names at among nests = record {
+  pub nests_here : (network : PlantTree) (tables : List TableTree) (bases : List BaseChain) (b : BaseChain) (names : TableTree)
+      → slice_get tables b.number.table ≡ Some names → Contains bases b → NestsOver (table_program network b.number.table names) most b.number.chain
+      → SomeNestsOver most network tables bases
+  nests_here network tables bases b names at among nests = record {
     base = b;
     member = among;
-    nests = subst (λ t. NestsOver (table_program plant b.number.table t) most b.number.chain)
+    nests = subst (λ t. NestsOver (table_program network b.number.table t) most b.number.chain)
         (sym (get_or_from_slice_get tables b.number.table names _ at)) nests;
   }
 
   -- from one of more base chains of the same tables on
-  pub nests_among : (plant plant' : PlantTree) (tables tables' : List TableTree) (bases more : List BaseChain) → plant ≡ plant' → tables ≡ tables'
-      → ((b : BaseChain) → Contains bases b → Contains more b) → SomeNestsOver most plant tables bases → SomeNestsOver most plant' tables' more
-  nests_among plant plant' tables tables' bases more of_plant of_tables all some = record {
+  pub nests_among : (network network' : PlantTree) (tables tables' : List TableTree) (bases more : List BaseChain) → network ≡ network' → tables ≡ tables'
+      → ((b : BaseChain) → Contains bases b → Contains more b) → SomeNestsOver most network tables bases → SomeNestsOver most network' tables' more
+  nests_among network network' tables tables' bases more of_plant of_tables all some = record {
     base = some.base;
     member = all some.base some.member;
-    nests = subst (λ ts. NestsOver (program_at plant' ts some.base.number.table) most some.base.number.chain) of_tables
+    nests = subst (λ ts. NestsOver (program_at network' ts some.base.number.table) most some.base.number.chain) of_tables
         (subst (λ q. NestsOver (program_at q tables some.base.number.table) most some.base.number.chain) of_plant some.nests);
   }

@@ -84,35 +84,35 @@ many = omega arith
 
 -- of each base chain
 abbrev pub RunsAre : PlantTree → List TableTree → Type 0
-RunsAre plant tables = (b : BaseChain) → Contains (base_chains_of tables) b → (t : TableTree)
-    → slice_get tables b.number.table ≡ Some t → BaseChainRunsAreWays plant tables b t
+RunsAre network tables = (b : BaseChain) → Contains (base_chains_of tables) b → (t : TableTree)
+    → slice_get tables b.number.table ≡ Some t → BaseChainRunsAreWays network tables b t
 
-module _ (plant : PlantTree) (tables : List TableTree) (law : RunsAre plant tables) where
-  base_run : (b : BaseChain) → Contains (base_chains_of tables) b → (f : Facts) (es : List Event) (r : HookResult) → RunsBaseChain plant tables b f es r
-      → IsEnd r (base_end plant tables b f)
+module _ (network : PlantTree) (tables : List TableTree) (law : RunsAre network tables) where
+  base_run : (b : BaseChain) → Contains (base_chains_of tables) b → (f : Facts) (es : List Event) (r : HookResult) → RunsBaseChain network tables b f es r
+      → IsEnd r (base_end network tables b f)
   base_run b has f es r run =
       let same : table_at tables b.number.table ≡ run.table =
       get_or_from_slice_get tables b.number.table run.table _ run.stands in
-      let p = program_at plant tables b.number.table in
+      let p = program_at network tables b.number.table in
       let is = subst (λ t. r ≡ with_policy b.number (policy_of b.head)
-      (run_result (table_program plant b.number.table t) (way (table_program plant b.number.table t) LEVELS b.number.chain f) es))
+      (run_result (table_program network b.number.table t) (way (table_program network b.number.table t) LEVELS b.number.chain f) es))
       (sym same) ((law b has run.table run.stands LEVELS many f es r).0 run) in
-      subst (λ x. IsEnd x (base_end plant tables b f)) (sym is)
-      (with_events b.number (policy_of b.head) (events_of_visits p (base_way plant tables b f).visits es) (base_way plant tables b f).end)
+      subst (λ x. IsEnd x (base_end network tables b f)) (sym is)
+      (with_events b.number (policy_of b.head) (events_of_visits p (base_way network tables b f).visits es) (base_way network tables b f).end)
 
   -- base chains in turn come to the end of the way through them
   abbrev Comes : List BaseChain → Type 0
-  Comes bs = (f : Facts) (es : List Event) (r : HookResult) → InTurn plant tables bs f es r → IsEnd r (end_of_chains plant tables bs f)
+  Comes bs = (f : Facts) (es : List Event) (r : HookResult) → InTurn network tables bs f es r → IsEnd r (end_of_chains network tables bs f)
 
   behind_first : (b : BaseChain) (bs : List BaseChain) → Contains (base_chains_of tables) b → Comes bs → (f : Facts) (es : List Event) (r : HookResult)
-      → Then (RunsBaseChain plant tables b) (InTurn plant tables bs) f es r → IsEnd r (end_of_chains plant tables (b ∷ bs) f)
+      → Then (RunsBaseChain network tables b) (InTurn network tables bs) f es r → IsEnd r (end_of_chains network tables (b ∷ bs) f)
   behind_first b bs has others f es r (hooks.goes_on m ran on more) =
-      let rest = end_of_chains plant tables bs in
+      let rest = end_of_chains network tables bs in
       let first = base_run b has f es m ran in
       subst (IsEnd r) (sym (on_accept m.verdict on rest m.facts)
       ∙ ap₂ (λ v g. behind_end rest (record { verdict = v; facts = g })) first.verdict first.facts) (others m.facts m.events r more)
   behind_first b bs has others f es r (hooks.stops ran stops) =
-      let rest = end_of_chains plant tables bs in
+      let rest = end_of_chains network tables bs in
       let only = base_run b has f es r ran in
       subst (IsEnd r) (sym (on_other r.verdict stops rest r.facts)
       ∙ ap₂ (λ v g. behind_end rest (record { verdict = v; facts = g })) only.verdict only.facts) (record { verdict = refl; facts = refl })
@@ -123,8 +123,8 @@ module _ (plant : PlantTree) (tables : List TableTree) (law : RunsAre plant tabl
       behind_first b bs (all b (Contains-head b bs)) (in_turn bs (λ x at. all x (Contains-there b x bs at))) f es r run
 
   module _ (one_order : (text a b : List BaseChain) → InOrder text a → InOrder text b → a ≡ b)
-      (terminate : (stage : HookStage) → Terminates (Stage stage plant tables)) where
-    pub stage_runs_are_ways : (stage : HookStage) → StageRunsAreWays plant tables stage
+      (terminate : (stage : HookStage) → Terminates (Stage stage network tables)) where
+    pub stage_runs_are_ways : (stage : HookStage) → StageRunsAreWays network tables stage
     stage_runs_are_ways stage =
         let test = chains_in_stage stage in
         let text = filter test (base_chains_of tables) in
@@ -137,6 +137,6 @@ module _ (plant : PlantTree) (tables : List TableTree) (law : RunsAre plant tabl
           ways = λ f es r run.
               let same = one_order text run.order order run.in_order are in
               let at_end = in_turn order (λ b has. in_list test (base_chains_of tables) b (in_text text order are b has)) f es r
-              (subst (λ (l : List BaseChain). InTurn plant tables l f es r) same run.run) in
+              (subst (λ (l : List BaseChain). InTurn network tables l f es r) same run.run) in
               (at_end.verdict, at_end.facts);
         }

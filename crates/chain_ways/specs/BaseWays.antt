@@ -27,11 +27,11 @@ abbrev pub table_at : List TableTree → ℕ → TableTree
 table_at tables n = slice_index_or tables n (record { family = Ip; name = []; items = [] })
 
 abbrev pub program_at : PlantTree → List TableTree → ℕ → Program Statement
-program_at plant tables n = table_program plant n (table_at tables n)
+program_at network tables n = table_program network n (table_at tables n)
 
 -- the way of a packet through the base chain
 abbrev pub base_way : PlantTree → List TableTree → BaseChain → Facts → Way Statement
-base_way plant tables b f = way (program_at plant tables b.number.table) LEVELS b.number.chain f
+base_way network tables b f = way (program_at network tables b.number.table) LEVELS b.number.chain f
 
 -- ---- base chains one after another
 
@@ -65,9 +65,9 @@ abbrev pub is_accepted : HookVerdict → Bool
 is_accepted Accepted = true
 is_accepted verdict = false
 
-module _ (plant : PlantTree) (tables : List TableTree) where
+module _ (network : PlantTree) (tables : List TableTree) where
   abbrev pub base_end : BaseChain → Facts → StageEnd
-  base_end b f = by_policy (policy_of b.head) (base_way plant tables b f).end
+  base_end b f = by_policy (policy_of b.head) (base_way network tables b f).end
 
   -- through these base chains; where there is none, the packet is accepted as it came
   abbrev pub end_of_chains : List BaseChain → Facts → StageEnd
@@ -83,6 +83,6 @@ module _ (plant : PlantTree) (tables : List TableTree) where
   pub record StageRunsAreWays (stage : HookStage) : Type 0 where
     pub order : List BaseChain
     pub are : AreChainsOf tables stage order
-    pub runs : (f : Facts) (es : List Event) → (result : HookResult) × Stage stage plant tables f es result
-    pub ways : (f : Facts) (es : List Event) (result : HookResult) → Stage stage plant tables f es result
+    pub runs : (f : Facts) (es : List Event) → (result : HookResult) × Stage stage network tables f es result
+    pub ways : (f : Facts) (es : List Event) (result : HookResult) → Stage stage network tables f es result
         → (result.verdict ≡ (end_of_chains order f).verdict) × (result.facts ≡ (end_of_chains order f).facts)

@@ -45,12 +45,12 @@ WaysAreRuns p =
 
 -- the result of a base chain of table `table` is that of the way through it, and then its policy
 abbrev pub BaseChainRunsAreWays : PlantTree → List TableTree → BaseChain → TableTree → Type 0
-BaseChainRunsAreWays plant tables b table =
+BaseChainRunsAreWays network tables b table =
     (levels : ℕ) → MAX_COST < levels → (f : Facts) (es : List Event) (hook_result : HookResult)
-    → RunsBaseChain plant tables b f es hook_result
+    → RunsBaseChain network tables b f es hook_result
     ↔ (hook_result ≡ with_policy b.number (policy_of b.head)
-    (run_result (table_program plant b.number.table table)
-    (way (table_program plant b.number.table table) levels b.number.chain f) es))
+    (run_result (table_program network b.number.table table)
+    (way (table_program network b.number.table table) levels b.number.chain f) es))
 
 -- ---- events
 
@@ -84,8 +84,8 @@ pub record EventsFitWay (p : Program Statement) (way : Way Statement) (events : 
 
 -- the events of each run through a base chain of table `table`, with none before it, fit the way through it
 abbrev pub BaseChainEventsFitWays : PlantTree → List TableTree → BaseChain → TableTree → Type 0
-BaseChainEventsFitWays plant tables b table =
+BaseChainEventsFitWays network tables b table =
     (levels : ℕ) → MAX_COST < levels → (f : Facts) (hook_result : HookResult)
-    → RunsBaseChain plant tables b f [] hook_result
-    → EventsFitWay (table_program plant b.number.table table)
-    (way (table_program plant b.number.table table) levels b.number.chain f) hook_result.events
+    → RunsBaseChain network tables b f [] hook_result
+    → EventsFitWay (table_program network b.number.table table)
+    (way (table_program network b.number.table table) levels b.number.chain f) hook_result.events

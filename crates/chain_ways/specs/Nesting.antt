@@ -38,8 +38,8 @@ module _ {S : Type 0} (p : Program S) where
     pub over : most < 1 + length along
 
 -- there is such a path from one of these base chains of a ruleset
-pub record SomeNestsOver (most : ℕ) (plant : PlantTree) (tables : List TableTree) (bases : List BaseChain)
+pub record SomeNestsOver (most : ℕ) (network : PlantTree) (tables : List TableTree) (bases : List BaseChain)
     : Type 0 where
   pub base : BaseChain
   pub member : Contains bases base
-  pub nests : NestsOver (program_at plant tables base.number.table) most base.number.chain
+  pub nests : NestsOver (program_at network tables base.number.table) most base.number.chain

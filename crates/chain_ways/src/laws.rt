@@ -25,10 +25,10 @@ pub fn runs_are_ways()
 
 /// In a well-formed ruleset a packet runs through each base chain along its way.
 pub fn base_chain_runs_are_ways()
-    ensures { (tables : List TableTree) (plant : PlantTree) → WellFormed tables plant
+    ensures { (tables : List TableTree) (network : PlantTree) → WellFormed tables network
         → (b : BaseChain) → Contains (base_chains_of tables) b
         → (table : TableTree) → slice_get tables b.number.table ≡ Some table
-        → BaseChainRunsAreWays plant tables b table }
+        → BaseChainRunsAreWays network tables b table }
 {
     rule_runs_to_its_end();
     path_faults_decidable();
@@ -40,10 +40,10 @@ pub fn base_chain_runs_are_ways()
 /// In a well-formed ruleset the events of a packet in a base chain show which rules its way comes to,
 /// and which it meets.
 pub fn base_chain_events_fit_ways()
-    ensures { (tables : List TableTree) (plant : PlantTree) → WellFormed tables plant
+    ensures { (tables : List TableTree) (network : PlantTree) → WellFormed tables network
         → (b : BaseChain) → Contains (base_chains_of tables) b
         → (table : TableTree) → slice_get tables b.number.table ≡ Some table
-        → BaseChainEventsFitWays plant tables b table }
+        → BaseChainEventsFitWays network tables b table }
 {
     base_chain_runs_are_ways();
 }
@@ -51,8 +51,8 @@ pub fn base_chain_events_fit_ways()
 /// In a well-formed ruleset each packet runs through the base chains of a stage along its ways through
 /// them, one after another.
 pub fn stage_runs_are_ways()
-    ensures { (tables : List TableTree) (plant : PlantTree) → WellFormed tables plant
-        → (stage : HookStage) → StageRunsAreWays plant tables stage }
+    ensures { (tables : List TableTree) (network : PlantTree) → WellFormed tables network
+        → (stage : HookStage) → StageRunsAreWays network tables stage }
 {
     base_chain_runs_are_ways();
     hooks_terminate();

@@ -83,15 +83,15 @@ headers_true f h = headers_by f.packet.protocol f.packet.transport h
 
 -- ---- outputs
 
-without_output : (plant : PlantTree) (o : Option Interface) → IsOutput plant false o
+without_output : (network : PlantTree) (o : Option Interface) → IsOutput network false o
     → not (tests (option_map (λ i. i.index) o) (λ n. nat_le 0 n)) ≡ true
-without_output plant None h = refl
-without_output plant (Some o) h = absurd h
+without_output network None h = refl
+without_output network (Some o) h = absurd h
 
-with_output : (plant : PlantTree) (o : Option Interface) → IsOutput plant true o
+with_output : (network : PlantTree) (o : Option Interface) → IsOutput network true o
     → tests (option_map (λ i. i.index) o) (λ n. not (nat_le 0 n && nat_le n 0)) ≡ true
-with_output plant None h = absurd h
-with_output plant (Some o) (n, ours, e) = ap (λ (i : Interface). not (nat_le 0 i.index && nat_le i.index 0)) e ∙ not_zero n ours.1
+with_output network None h = absurd h
+with_output network (Some o) (n, ours, e) = ap (λ (i : Interface). not (nat_le 0 i.index && nat_le i.index 0)) e ∙ not_zero n ours.1
 
 -- ---- states
 
@@ -126,69 +126,69 @@ first_after Untracked seen x h = absurd seen
 
 -- ---- facts
 
-output_of_box : (plant : PlantTree) (out : Bool) (o : Option Interface) → IsOutput plant out o → IfSome o (IsInterface (interfaces_of plant))
-output_of_box plant out None h = tt
-output_of_box plant false (Some o) h = absurd h
-output_of_box plant true (Some o) (n, ours, e) = subst (IsInterface (interfaces_of plant)) (sym e) ours.0
+output_of_box : (network : PlantTree) (out : Bool) (o : Option Interface) → IsOutput network out o → IfSome o (IsInterface (interfaces_of network))
+output_of_box network out None h = tt
+output_of_box network false (Some o) h = absurd h
+output_of_box network true (Some o) (n, ours, e) = subst (IsInterface (interfaces_of network)) (sym e) ours.0
 
-of_box : (plant : PlantTree) (index : ℕ) (out : Bool) (f : Facts) → IsOurs plant index → Standing plant index out f → IsOfBox (interfaces_of plant) f
-of_box plant index out f ours h = record {
+of_box : (network : PlantTree) (index : ℕ) (out : Bool) (f : Facts) → IsOurs network index → Standing network index out f → IsOfBox (interfaces_of network) f
+of_box network index out f ours h = record {
   packet = h.packet.fits;
-  input = subst (IsInterface (interfaces_of plant)) (sym h.input) ours.0;
-  output = output_of_box plant out f.output h.output;
+  input = subst (IsInterface (interfaces_of network)) (sym h.input) ours.0;
+  output = output_of_box network out f.output h.output;
   mark = h.marks.0;
   ct = h.marks.1;
 }
 
-packet_true : (plant : PlantTree) (index : ℕ) (out : Bool) (f : Facts) → IsOurs plant index → Standing plant index out f → is_packet f ≡ true
-packet_true plant index out f ours h = and_true (has_input f) (has_length f && has_headers f)
+packet_true : (network : PlantTree) (index : ℕ) (out : Bool) (f : Facts) → IsOurs network index → Standing network index out f → is_packet f ≡ true
+packet_true network index out f ours h = and_true (has_input f) (has_length f && has_headers f)
     (ap (λ (i : Interface). not (nat_le 0 i.index && nat_le i.index 0)) h.input ∙ not_zero index ours.1)
     (and_true (has_length f) (has_headers f) (reached f.packet.length 20 h.packet.long) (headers_true f h.packet.header))
 
 abbrev Comes : PlantTree → HookStage → Facts → Type 0
-Comes plant stage f = IsOfBox (interfaces_of plant) f × (can_come_to stage f ≡ true)
+Comes network stage f = IsOfBox (interfaces_of network) f × (can_come_to stage f ≡ true)
 
-there : (plant : PlantTree) (index : ℕ) (stage : HookStage) (out : Bool) (f : Facts) → IsOurs plant index → Standing plant index out f
-    → has_output (hook_of stage) f ≡ true → has_state_in stage f ≡ true → Comes plant stage f
-there plant index stage out f ours h output state = (
-  of_box plant index out f ours h,
-  and_true (is_packet f) (has_output (hook_of stage) f && has_state_in stage f) (packet_true plant index out f ours h)
+there : (network : PlantTree) (index : ℕ) (stage : HookStage) (out : Bool) (f : Facts) → IsOurs network index → Standing network index out f
+    → has_output (hook_of stage) f ≡ true → has_state_in stage f ≡ true → Comes network stage f
+there network index stage out f ours h output state = (
+  of_box network index out f ours h,
+  and_true (is_packet f) (has_output (hook_of stage) f && has_state_in stage f) (packet_true network index out f ours h)
       (and_true (has_output (hook_of stage) f) (has_state_in stage f) output state),
 )
 
-module _ (setup : Setup) (well : WellFormed setup.rules setup.plant) (fits : AddressesFit setup.rules) (box : BoxFits setup.plant) (index : ℕ)
-    (ours : IsOurs setup.plant index) where
-  abbrev plant : PlantTree
-  plant = setup.plant
+module _ (setup : Setup) (well : WellFormed setup.rules setup.network) (fits : AddressesFit setup.rules) (box : BoxFits setup.network) (index : ℕ)
+    (ours : IsOurs setup.network index) where
+  abbrev network : PlantTree
+  network = setup.network
 
-  comes_before : (stage : HookStage) (s : PathState) → IsSeenBy stage s.info → Before setup well fits box index stage s → Comes plant stage s.facts
-  comes_before stages.PreroutingRaw s seen h = there plant index stages.PreroutingRaw false s.facts ours h.0 (without_output plant s.facts.output h.0.output)
+  comes_before : (stage : HookStage) (s : PathState) → IsSeenBy stage s.info → Before setup well fits box index stage s → Comes network stage s.facts
+  comes_before stages.PreroutingRaw s seen h = there network index stages.PreroutingRaw false s.facts ours h.0 (without_output network s.facts.output h.0.output)
       (ap (λ x. not (tests x (λ n. nat_le 0 n))) h.1)
-  comes_before stages.PreroutingBeforeNat s seen h = there plant index stages.PreroutingBeforeNat false s.facts ours h.stands
-      (without_output plant s.facts.output h.stands.output) (looked_up_state s.info (ct_state s.facts.ct) h.state)
-  comes_before stages.PreroutingNat s seen h = there plant index stages.PreroutingNat false s.facts ours h.stands
-      (without_output plant s.facts.output h.stands.output)
+  comes_before stages.PreroutingBeforeNat s seen h = there network index stages.PreroutingBeforeNat false s.facts ours h.stands
+      (without_output network s.facts.output h.stands.output) (looked_up_state s.info (ct_state s.facts.ct) h.state)
+  comes_before stages.PreroutingNat s seen h = there network index stages.PreroutingNat false s.facts ours h.stands
+      (without_output network s.facts.output h.stands.output)
       (new_state (ct_state s.facts.ct) (first_before s.info seen (ct_state s.facts.ct) h.state))
-  comes_before stages.PreroutingAfterNat s seen h = there plant index stages.PreroutingAfterNat false s.facts ours h.stands
-      (without_output plant s.facts.output h.stands.output) (looked_up_state s.info (ct_state s.facts.ct) h.state)
-  comes_before stages.Input s seen h = there plant index stages.Input false s.facts ours h.stands
-      (without_output plant s.facts.output h.stands.output) (looked_up_state s.info (ct_state s.facts.ct) h.state)
-  comes_before stages.Forward s seen h = there plant index stages.Forward true s.facts ours h.stands
-      (with_output plant s.facts.output h.stands.output) (looked_up_state s.info (ct_state s.facts.ct) h.state)
-  comes_before stages.PostroutingBeforeNat s seen h = there plant index stages.PostroutingBeforeNat true s.facts ours h.stands
-      (with_output plant s.facts.output h.stands.output) (looked_up_state s.info (ct_state s.facts.ct) h.state)
-  comes_before stages.PostroutingNat s seen h = there plant index stages.PostroutingNat true s.facts ours h.stands
-      (with_output plant s.facts.output h.stands.output)
+  comes_before stages.PreroutingAfterNat s seen h = there network index stages.PreroutingAfterNat false s.facts ours h.stands
+      (without_output network s.facts.output h.stands.output) (looked_up_state s.info (ct_state s.facts.ct) h.state)
+  comes_before stages.Input s seen h = there network index stages.Input false s.facts ours h.stands
+      (without_output network s.facts.output h.stands.output) (looked_up_state s.info (ct_state s.facts.ct) h.state)
+  comes_before stages.Forward s seen h = there network index stages.Forward true s.facts ours h.stands
+      (with_output network s.facts.output h.stands.output) (looked_up_state s.info (ct_state s.facts.ct) h.state)
+  comes_before stages.PostroutingBeforeNat s seen h = there network index stages.PostroutingBeforeNat true s.facts ours h.stands
+      (with_output network s.facts.output h.stands.output) (looked_up_state s.info (ct_state s.facts.ct) h.state)
+  comes_before stages.PostroutingNat s seen h = there network index stages.PostroutingNat true s.facts ours h.stands
+      (with_output network s.facts.output h.stands.output)
       (new_state (ct_state s.facts.ct) (first_after s.info seen (ct_state s.facts.ct) h.state))
-  comes_before stages.PostroutingAfterNat s seen h = there plant index stages.PostroutingAfterNat true s.facts ours h.stands
-      (with_output plant s.facts.output h.stands.output) (looked_up_state s.info (ct_state s.facts.ct) h.state)
+  comes_before stages.PostroutingAfterNat s seen h = there network index stages.PostroutingAfterNat true s.facts ours h.stands
+      (with_output network s.facts.output h.stands.output) (looked_up_state s.info (ct_state s.facts.ct) h.state)
 
-pub comes : (setup : Setup) → WellFormed setup.rules setup.plant → AddressesFit setup.rules → BoxFits setup.plant → (stage : HookStage) (f : Facts)
-    → ComesTo setup stage f → IsOfBox (interfaces_of setup.plant) f × (can_come_to stage f ≡ true)
+pub comes : (setup : Setup) → WellFormed setup.rules setup.network → AddressesFit setup.rules → BoxFits setup.network → (stage : HookStage) (f : Facts)
+    → ComesTo setup stage f → IsOfBox (interfaces_of setup.network) f × (can_come_to stage f ≡ true)
 comes setup well fits box stage f c =
-    let got : IsReceived setup.plant c.a = received setup box c.a c.r c.bytes c.carries in
+    let got : IsReceived setup.network c.a = received setup box c.a c.r c.bytes c.carries in
     let live : Every EntryFits (live_at_record setup c.history c.r) = live_fit (limits_of setup) (tracked_of c.history) (moment_after c.history c.r)
     (history_fits setup well fits box c.history c.of_bytes) in
-    subst (λ (g : Facts). IsOfBox (interfaces_of setup.plant) g × (can_come_to stage g ≡ true)) (sym c.facts)
+    subst (λ (g : Facts). IsOfBox (interfaces_of setup.network) g × (can_come_to stage g ≡ true)) (sym c.facts)
     (comes_before setup well fits box c.a.interface got.ours stage c.state c.seen
     (stands setup well fits box c.a.interface (live_at_record setup c.history c.r) live c.a refl got c.stands).0)

@@ -21,13 +21,13 @@ use Rattle.coming_laws.proofs.Each.{each_both, each_filter, each_filter_map, eac
 
 -- an interface of the box, as rules see it
 abbrev pub IsOurs : PlantTree → ℕ → Type 0
-IsOurs plant n = IsInterface (interfaces_of plant) (interface_facts plant n) × (0 < n)
+IsOurs network n = IsInterface (interfaces_of network) (interface_facts network n) × (0 < n)
 
-pub record BoxFits (plant : PlantTree) : Type 0 where
-  pub ours : Every (λ (i : Interface). IsOurs plant i.index) plant.interfaces
-  pub addresses : Every (λ (i : Interface). i.address < 2 ^ 32) plant.interfaces
-  pub entering : IsOurs plant plant.entering
-  pub routes : Every (λ (r : RouteEntry). IsOurs plant r.interface) plant.routes
+pub record BoxFits (network : PlantTree) : Type 0 where
+  pub ours : Every (λ (i : Interface). IsOurs network i.index) network.interfaces
+  pub addresses : Every (λ (i : Interface). i.address < 2 ^ 32) network.interfaces
+  pub entering : IsOurs network network.entering
+  pub routes : Every (λ (r : RouteEntry). IsOurs network r.interface) network.routes
 
 -- ---- interface lines
 
@@ -42,26 +42,26 @@ lines_right [] h = tt
 lines_right (l ∷ ls) h = (h.0, lines_right ls h.1)
 
 -- the interface at a place of the list is the one of its number
-number_of_place : (plant : PlantTree) → length plant.interfaces ≤ 64 → (i : Interface) → Contains plant.interfaces i
-    → IsInterface (interfaces_of plant) (interface_facts plant i.index)
-number_of_place plant few i (k, here, is) = (
+number_of_place : (network : PlantTree) → length network.interfaces ≤ 64 → (i : Interface) → Contains network.interfaces i
+    → IsInterface (interfaces_of network) (interface_facts network i.index)
+number_of_place network few i (k, here, is) = (
   k,
-  below k (length plant.interfaces) here few,
-  sym (mapped ∙ ap (λ (j : Interface). interface_facts plant j.index) is),
+  below k (length network.interfaces) here few,
+  sym (mapped ∙ ap (λ (j : Interface). interface_facts network j.index) is),
 )
   where
     below : (k n : ℕ) → k < n → n ≤ 64 → k < 64
     below k n h w = omega arith
 
-    mapped : interface_at (interfaces_of plant) k ≡ interface_facts plant (slice_index_or plant.interfaces k i).index
-    mapped = within plant.interfaces k here
+    mapped : interface_at (interfaces_of network) k ≡ interface_facts network (slice_index_or network.interfaces k i).index
+    mapped = within network.interfaces k here
       where
         within : (is : List Interface) (k : ℕ) → k < length is
-            → get_or (map (λ (j : Interface). interface_facts plant j.index) is) k (record { index = 0; name = 0 })
-            ≡ interface_facts plant (get_or is k i).index
-        within is k l = get_or_default (map (λ (j : Interface). interface_facts plant j.index) is) k (record { index = 0; name = 0 })
-            (interface_facts plant i.index) (subst (λ n. k < n) (sym (length-map is (λ (j : Interface). interface_facts plant j.index))) l)
-            ∙ get_or-map (λ (j : Interface). interface_facts plant j.index) is k i
+            → get_or (map (λ (j : Interface). interface_facts network j.index) is) k (record { index = 0; name = 0 })
+            ≡ interface_facts network (get_or is k i).index
+        within is k l = get_or_default (map (λ (j : Interface). interface_facts network j.index) is) k (record { index = 0; name = 0 })
+            (interface_facts network i.index) (subst (λ n. k < n) (sym (length-map is (λ (j : Interface). interface_facts network j.index))) l)
+            ∙ get_or-map (λ (j : Interface). interface_facts network j.index) is k i
 
 -- ---- faults
 
@@ -93,15 +93,15 @@ module _ (Q : ℕ → Type 0) (t : Interface → Bool) where
   known [] h e = absurd cc
   known (i ∷ is) h e = known_if (t i) i (find t is) (list_any t is) h.0 (known is h.1) e
 
-known_name : (plant : PlantTree) → Every (λ (i : Interface). IsOurs plant i.index) plant.interfaces → (n : List ℕ)
-    → is_unknown plant.interfaces n ≡ false → IsOurs plant (known_index plant.interfaces n)
-known_name plant h n e = known (IsOurs plant) (is_named n) plant.interfaces h (unnot (list_any (is_named n) plant.interfaces) e)
+known_name : (network : PlantTree) → Every (λ (i : Interface). IsOurs network i.index) network.interfaces → (n : List ℕ)
+    → is_unknown network.interfaces n ≡ false → IsOurs network (known_index network.interfaces n)
+known_name network h n e = known (IsOurs network) (is_named n) network.interfaces h (unnot (list_any (is_named n) network.interfaces) e)
 
-default_name : (plant : PlantTree) → Every (λ (i : Interface). IsOurs plant i.index) plant.interfaces → (ns : List (List ℕ)) → is_malformed ns ≡ false
-    → list_any (is_unknown plant.interfaces) ns ≡ false → IsOurs plant (entering_of plant.interfaces ns)
-default_name plant h [] e f = absurd cc
-default_name plant h (n ∷ ns) e f =
-    known_name plant h n (neither (is_unknown plant.interfaces n) (list_any (is_unknown plant.interfaces) ns) f).0
+default_name : (network : PlantTree) → Every (λ (i : Interface). IsOurs network i.index) network.interfaces → (ns : List (List ℕ)) → is_malformed ns ≡ false
+    → list_any (is_unknown network.interfaces) ns ≡ false → IsOurs network (entering_of network.interfaces ns)
+default_name network h [] e f = absurd cc
+default_name network h (n ∷ ns) e f =
+    known_name network h n (neither (is_unknown network.interfaces n) (list_any (is_unknown network.interfaces) ns) f).0
 
 -- ---- routes
 
@@ -114,19 +114,19 @@ from_listed Q g [] h = tt
 from_listed Q g (x ∷ xs) h =
     let parts = listed_parts Q (g x) (filter_map g xs) h in (parts.0, from_listed Q g xs parts.1)
 
-route_ours : (plant : PlantTree) → Every (λ (i : Interface). IsOurs plant i.index) plant.interfaces → (l : Line)
-    → IfSome (interface_in l) (λ i. IsOurs plant i.index) × IfSome (route_in l) (λ r. is_unknown plant.interfaces r.name ≡ false)
-    → IfSome (route_of_line plant.interfaces l) (λ r. IsOurs plant r.interface)
-route_ours plant h (interface_line i) k = k.0
-route_ours plant h (route_line r) k = known_name plant h r.name k.1
-route_ours plant h (default_line n) k = tt
-route_ours plant h (idle_line i) k = tt
+route_ours : (network : PlantTree) → Every (λ (i : Interface). IsOurs network i.index) network.interfaces → (l : Line)
+    → IfSome (interface_in l) (λ i. IsOurs network i.index) × IfSome (route_in l) (λ r. is_unknown network.interfaces r.name ≡ false)
+    → IfSome (route_of_line network.interfaces l) (λ r. IsOurs network r.interface)
+route_ours network h (interface_line i) k = k.0
+route_ours network h (route_line r) k = known_name network h r.name k.1
+route_ours network h (default_line n) k = tt
+route_ours network h (idle_line i) k = tt
 
 -- ---- the box of lines
 
 lines_box : (text : List ℕ) (lines : List Line) (idle : Limits) → each_is_line lines → least_fault text lines ≡ None → BoxFits (plant_of lines idle)
 lines_box text lines idle each faultless =
-    let plant = plant_of lines idle in
+    let network = plant_of lines idle in
     let none = none_found (has_fault text lines) (faults.Form ∷ faults.Repeated ∷ faults.UnknownName ∷ faults.TooLarge ∷ faults.OutOfRange ∷ []) faultless in
     let few : length (interfaces_in lines) ≤ 64 = at_most 64 (length (interfaces_in lines))
     (neither (nat_lt 1048576 (length text)) (nat_lt 64 (length (interfaces_in lines)))
@@ -137,28 +137,28 @@ lines_box text lines idle each faultless =
     (list_any (is_unknown (interfaces_in lines)) (defaults_in lines)) none.1.1.0 in
     let values : Every (λ (i : Interface). (0 < i.index) × (i.address < 2 ^ 32)) (interfaces_in lines) =
     each_filter_map IsLine (λ (i : Interface). (0 < i.index) × (i.address < 2 ^ 32)) interface_in line_interface lines (lines_right lines each) in
-    let ours : Every (λ (i : Interface). IsOurs plant i.index) (interfaces_in lines) =
-    each_weaker (λ (i : Interface). ((0 < i.index) × (i.address < 2 ^ 32)) × Contains (interfaces_in lines) i) (λ (i : Interface). IsOurs plant i.index)
-    (λ i h. (number_of_place plant few i h.1, h.0.0)) (interfaces_in lines)
+    let ours : Every (λ (i : Interface). IsOurs network i.index) (interfaces_in lines) =
+    each_weaker (λ (i : Interface). ((0 < i.index) × (i.address < 2 ^ 32)) × Contains (interfaces_in lines) i) (λ (i : Interface). IsOurs network i.index)
+    (λ i h. (number_of_place network few i h.1, h.0.0)) (interfaces_in lines)
     (each_both (λ (i : Interface). (0 < i.index) × (i.address < 2 ^ 32)) (Contains (interfaces_in lines)) (interfaces_in lines) values
     (each_from_all (Contains (interfaces_in lines)) (interfaces_in lines) (All-contains_itself (interfaces_in lines)))) in
     record {
       ours = ours;
       addresses = each_weaker (λ (i : Interface). (0 < i.index) × (i.address < 2 ^ 32)) (λ (i : Interface). i.address < 2 ^ 32) (λ i h. h.1)
           (interfaces_in lines) values;
-      entering = default_name plant ours (defaults_in lines) none.0 names.1;
-      routes = each_filter_map (λ l. IfSome (interface_in l) (λ i. IsOurs plant i.index)
+      entering = default_name network ours (defaults_in lines) none.0 names.1;
+      routes = each_filter_map (λ l. IfSome (interface_in l) (λ i. IsOurs network i.index)
           × IfSome (route_in l) (λ r. is_unknown (interfaces_in lines) r.name ≡ false))
-          (λ (r : RouteEntry). IsOurs plant r.interface) (route_of_line (interfaces_in lines)) (route_ours plant ours) lines
-          (each_both (λ l. IfSome (interface_in l) (λ i. IsOurs plant i.index))
+          (λ (r : RouteEntry). IsOurs network r.interface) (route_of_line (interfaces_in lines)) (route_ours network ours) lines
+          (each_both (λ l. IfSome (interface_in l) (λ i. IsOurs network i.index))
           (λ l. IfSome (route_in l) (λ r. is_unknown (interfaces_in lines) r.name ≡ false)) lines
-          (from_listed (λ (i : Interface). IsOurs plant i.index) interface_in lines ours)
+          (from_listed (λ (i : Interface). IsOurs network i.index) interface_in lines ours)
           (from_listed (λ (r : NamedRoute). is_unknown (interfaces_in lines) r.name ≡ false) route_in lines
           (none_passes (λ (r : NamedRoute). is_unknown (interfaces_in lines) r.name) (routes_in lines) names.0)));
     }
 
-pub box_fits : (text : List ℕ) (plant : PlantTree) → IsBox text plant → BoxFits plant
-box_fits text plant h = subst BoxFits (sym h.meant) (lines_box text h.lines plant.idle h.read.each h.faultless)
+pub box_fits : (text : List ℕ) (network : PlantTree) → IsBox text network → BoxFits network
+box_fits text network h = subst BoxFits (sym h.meant) (lines_box text h.lines network.idle h.read.each h.faultless)
 
 -- ---- look-ups
 
@@ -179,18 +179,18 @@ same_number : (n k : ℕ) → (n == k) ≡ true → n ≡ k
 same_number n k e = grind (arith, nat_tests)
 
 -- an index with a name is one of the box
-pub named_ours : (plant : PlantTree) → BoxFits plant → (n : ℕ) → IfSome (name_of plant n) (λ name. IsOurs plant n)
-named_ours plant h n = some_map (λ (i : Interface). IsOurs plant i.index × (has_index n i ≡ true)) (λ name. IsOurs plant n) (λ i. i.name)
-    (λ i k. subst (IsOurs plant) (same_number i.index n k.1) k.0) (find (has_index n) plant.interfaces)
-    (both_some (λ (i : Interface). IsOurs plant i.index) (λ i. has_index n i ≡ true) (find (has_index n) plant.interfaces)
-    (each_find (λ (i : Interface). IsOurs plant i.index) (has_index n) plant.interfaces h.ours) (found_passes (has_index n) plant.interfaces))
+pub named_ours : (network : PlantTree) → BoxFits network → (n : ℕ) → IfSome (name_of network n) (λ name. IsOurs network n)
+named_ours network h n = some_map (λ (i : Interface). IsOurs network i.index × (has_index n i ≡ true)) (λ name. IsOurs network n) (λ i. i.name)
+    (λ i k. subst (IsOurs network) (same_number i.index n k.1) k.0) (find (has_index n) network.interfaces)
+    (both_some (λ (i : Interface). IsOurs network i.index) (λ i. has_index n i ≡ true) (find (has_index n) network.interfaces)
+    (each_find (λ (i : Interface). IsOurs network i.index) (has_index n) network.interfaces h.ours) (found_passes (has_index n) network.interfaces))
 
 if_routed : (b : Bool) (o : Option ℕ) (Q : ℕ → Type 0) → IfSome o Q → IfSome (if b then o else None) Q
 if_routed true o Q h = h
 if_routed false o Q h = tt
 
-pub route_leads : (plant : PlantTree) → BoxFits plant → (a : ℕ) → IfSome (route plant a) (IsOurs plant)
-route_leads plant h a = if_routed (nat_lt a 3758096384) (best_interface plant.routes a) (IsOurs plant)
-    (some_map (λ (r : RouteEntry). IsOurs plant r.interface) (IsOurs plant) (λ r. r.interface) (λ r k. k) (best_of (filter (covers a) plant.routes))
-    (each_find (λ (r : RouteEntry). IsOurs plant r.interface) (λ r. r.prefix == greatest (filter (covers a) plant.routes)) (filter (covers a) plant.routes)
-    (each_filter (λ (r : RouteEntry). IsOurs plant r.interface) (covers a) plant.routes h.routes)))
+pub route_leads : (network : PlantTree) → BoxFits network → (a : ℕ) → IfSome (route network a) (IsOurs network)
+route_leads network h a = if_routed (nat_lt a 3758096384) (best_interface network.routes a) (IsOurs network)
+    (some_map (λ (r : RouteEntry). IsOurs network r.interface) (IsOurs network) (λ r. r.interface) (λ r k. k) (best_of (filter (covers a) network.routes))
+    (each_find (λ (r : RouteEntry). IsOurs network r.interface) (λ r. r.prefix == greatest (filter (covers a) network.routes)) (filter (covers a) network.routes)
+    (each_filter (λ (r : RouteEntry). IsOurs network r.interface) (covers a) network.routes h.routes)))

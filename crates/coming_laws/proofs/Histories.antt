@@ -53,33 +53,33 @@ of_ok other (Err cause) = other
 received_as : (a b : ReceivedPacket) (r : Result ReceivedPacket Cause) → r ≡ Ok b → r ≡ Ok a → b ≡ a
 received_as a b r f e = ap (of_ok a) (sym f) ∙ ap (of_ok a) e
 
-module _ (setup : Setup) (box : BoxFits setup.plant) (a : ReceivedPacket) where
-  with_fault : (index : ℕ) (bytes : List ℕ) (o : Option HeaderFault) → fault_of bytes ≡ o → IsOurs setup.plant index → Bytes bytes
-      → carried_with index bytes o ≡ Ok a → IsReceived setup.plant a
+module _ (setup : Setup) (box : BoxFits setup.network) (a : ReceivedPacket) where
+  with_fault : (index : ℕ) (bytes : List ℕ) (o : Option HeaderFault) → fault_of bytes ≡ o → IsOurs setup.network index → Bytes bytes
+      → carried_with index bytes o ≡ Ok a → IsReceived setup.network a
   with_fault index bytes (Some fault) f ours all e = absurd cc
   with_fault index bytes None f ours all e =
       let long = length_fits bytes f in
-      subst (IsReceived setup.plant) (received_as a (record { interface = index; packet = packet_of bytes }) (carried_with index bytes None) refl e) (record {
+      subst (IsReceived setup.network) (received_as a (record { interface = index; packet = packet_of bytes }) (carried_with index bytes None) refl e) (record {
         bytes = All-take (λ b. b < 256) (total_len bytes) bytes all;
         long = subst (λ n. 20 ≤ n) (sym (total_kept bytes long)) long;
         ours = ours;
       })
 
-  by_index : (bytes : List ℕ) (o : Option ℕ) → IfSome o (IsOurs setup.plant) → Bytes bytes → carried_by bytes o ≡ Ok a → IsReceived setup.plant a
+  by_index : (bytes : List ℕ) (o : Option ℕ) → IfSome o (IsOurs setup.network) → Bytes bytes → carried_by bytes o ≡ Ok a → IsReceived setup.network a
   by_index bytes None h all e = absurd cc
   by_index bytes (Some index) h all e = with_fault index bytes (fault_of bytes) refl h all e
 
-  input_ours : (o : Option ℕ) → IfSome (input_interface setup o) (IsOurs setup.plant)
+  input_ours : (o : Option ℕ) → IfSome (input_interface setup o) (IsOurs setup.network)
   input_ours None = box.entering
-  input_ours (Some index) = some_map (λ (name : List ℕ). IsOurs setup.plant index) (IsOurs setup.plant) (λ name. index) (λ name h. h)
-      (name_of setup.plant index) (named_ours setup.plant box index)
+  input_ours (Some index) = some_map (λ (name : List ℕ). IsOurs setup.network index) (IsOurs setup.network) (λ name. index) (λ name h. h)
+      (name_of setup.network index) (named_ours setup.network box index)
 
-  after_link : (bytes : List ℕ) (l : Result Link LinkCause) → Bytes bytes → carried_after setup bytes l ≡ Ok a → IsReceived setup.plant a
+  after_link : (bytes : List ℕ) (l : Result Link LinkCause) → Bytes bytes → carried_after setup bytes l ≡ Ok a → IsReceived setup.network a
   after_link bytes (Err cause) all e = absurd cc
   after_link bytes (Ok link) all e = by_index (drop link.packet bytes) (input_interface setup link.interface) (input_ours link.interface)
       (All-drop (λ b. b < 256) link.packet bytes all) e
 
-  pub received : (r : Recorded) → AreBytes r.bytes → carried setup r ≡ Ok a → IsReceived setup.plant a
+  pub received : (r : Recorded) → AreBytes r.bytes → carried setup r ≡ Ok a → IsReceived setup.network a
   received r all e = after_link r.bytes (link_of r.link r.bytes) all e
 
 -- ---- what a packet leaves
@@ -152,7 +152,7 @@ confirmed_as others (Related c) s z e = ap final_state e
 confirmed_as others Invalid s z e = ap final_state e
 confirmed_as others Untracked s z e = ap final_state e
 
-module _ (setup : Setup) (well : WellFormed setup.rules setup.plant) (fits : AddressesFit setup.rules) (box : BoxFits setup.plant) where
+module _ (setup : Setup) (well : WellFormed setup.rules setup.network) (fits : AddressesFit setup.rules) (box : BoxFits setup.network) where
   module _ (index : ℕ) where
     abbrev seen : Bool → PathState → Type 0
     seen out s = SeenNow setup well fits box index out s
@@ -197,17 +197,17 @@ module _ (setup : Setup) (well : WellFormed setup.rules setup.plant) (fits : Add
         (routing_seen setup well fits box index one.0 two.0 (prerouted others all s one.0 h one.1) two.1) two.2)
 
     module _ (live : List ConntrackEntry) (all : Every EntryFits live) (a : ReceivedPacket) (same : index ≡ a.interface)
-        (got : IsReceived setup.plant a) where
-      path_fits : (z : PathState) → Path setup live a.packet (on_arrival a.packet (interface_facts setup.plant a.interface)) (Continue z) → EndFits z
+        (got : IsReceived setup.network a) where
+      path_fits : (z : PathState) → Path setup live a.packet (on_arrival a.packet (interface_facts setup.network a.interface)) (Continue z) → EndFits z
       path_fits z x =
-          let start = on_arrival a.packet (interface_facts setup.plant a.interface) in
+          let start = on_arrival a.packet (interface_facts setup.network a.interface) in
           let one = parted (RunsStage setup stages.PreroutingRaw) (LookUp live a.packet ⨾ AfterLookUp setup live a.packet) start z x in
           let two = parted (LookUp live a.packet) (AfterLookUp setup live a.packet) one.0 z one.2 in
           hooked (others_beside two.0.info live a.packet) (beside_fits two.0.info live a.packet all) two.0 z
           (look_up_seen setup well fits box index live all a.packet got.bytes one.0 two.0
           (raw_kept setup well fits box index start one.0 (arrives setup well fits box index live all a same got) one.1) two.1) two.2
 
-      pub result_fits : (r : StepResult) → Path setup live a.packet (on_arrival a.packet (interface_facts setup.plant a.interface)) r → ResultFits r
+      pub result_fits : (r : StepResult) → Path setup live a.packet (on_arrival a.packet (interface_facts setup.network a.interface)) r → ResultFits r
       result_fits (Continue z) x = path_fits z x
       result_fits (Drop cause z) x = tt
 

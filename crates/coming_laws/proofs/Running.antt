@@ -106,9 +106,9 @@ map_of_item (tree.set x) h = tt
 map_of_item (tree.map_item m) h = h.0
 map_of_item (tree.chain c) h = tt
 
-rules_right : (plant : PlantTree) (number : ℕ) (t : TableTree) → RightTable t → (c : ℕ)
-    → IfSome ((table_program plant number t).rules_at c) (Every (Every RightStatement))
-rules_right plant number t h c =
+rules_right : (network : PlantTree) (number : ℕ) (t : TableTree) → RightTable t → (c : ℕ)
+    → IfSome ((table_program network number t).rules_at c) (Every (Every RightStatement))
+rules_right network number t h c =
     some_map (λ (x : ChainTree). Every RightRule x.rules) (Every (Every RightStatement)) (λ x. map (λ r. r.statements) x.rules)
     (λ x k. each_map RightRule (Every RightStatement) (λ r. r.statements) (λ r w. w) x.rules k) (slice_get (chains_of t) c)
     (each_get (λ x. Every RightRule x.rules) (chains_of t) c
@@ -118,19 +118,19 @@ maps_right : (t : TableTree) → RightTable t → MapsOf DataFits t
 maps_right t h name = each_find (λ m. PairsFit (some_of m.elements)) (λ m. bytes_eq m.name name) (maps_of t)
     (each_filter_map RightItem (λ m. PairsFit (some_of m.elements)) map_in map_of_item t.items h)
 
-table_right : (plant : PlantTree) (t : TableTree) → Every ItemFits t.items × (has_wrong_value plant t ≡ false) → RightTable t
-table_right plant t h = each_both ItemFits (λ i. item_out_of_range i ≡ false) t.items h.0 (none_passes item_out_of_range t.items
-    (neither (list_any (λ r. not (is_of_type plant r)) (ranges_in t)) (list_any item_out_of_range t.items) h.1).1)
+table_right : (network : PlantTree) (t : TableTree) → Every ItemFits t.items × (has_wrong_value network t ≡ false) → RightTable t
+table_right network t h = each_both ItemFits (λ i. item_out_of_range i ≡ false) t.items h.0 (none_passes item_out_of_range t.items
+    (neither (list_any (λ r. not (is_of_type network r)) (ranges_in t)) (list_any item_out_of_range t.items) h.1).1)
 
-tables_right : (tables : List TableTree) (plant : PlantTree) → WellFormed tables plant → AddressesFit tables → Every RightTable tables
-tables_right tables plant well fits =
-    each_weaker (λ t. Every ItemFits t.items × (has_wrong_value plant t ≡ false)) RightTable (table_right plant) tables
-    (each_both (λ t. Every ItemFits t.items) (λ t. has_wrong_value plant t ≡ false) tables fits
-    (none_passes (has_wrong_value plant) tables (never (list_any (has_wrong_value plant) tables) (well faults.WrongValue))))
+tables_right : (tables : List TableTree) (network : PlantTree) → WellFormed tables network → AddressesFit tables → Every RightTable tables
+tables_right tables network well fits =
+    each_weaker (λ t. Every ItemFits t.items × (has_wrong_value network t ≡ false)) RightTable (table_right network) tables
+    (each_both (λ t. Every ItemFits t.items) (λ t. has_wrong_value network t ≡ false) tables fits
+    (none_passes (has_wrong_value network) tables (never (list_any (has_wrong_value network) tables) (well faults.WrongValue))))
 
 -- ---- base chains and stages
 
-module _ (tables : List TableTree) (plant : PlantTree) (well : WellFormed tables plant) (fits : AddressesFit tables) where
+module _ (tables : List TableTree) (network : PlantTree) (well : WellFormed tables network) (fits : AddressesFit tables) where
   abbrev pub EndFits : Facts → HookResult → Type 0
   EndFits f end = Keeps f end.facts × HookVerdictFits end.verdict
 
@@ -142,24 +142,24 @@ module _ (tables : List TableTree) (plant : PlantTree) (well : WellFormed tables
   with_policy_fits number p f (at_end g es) h = (h, policy_fits p)
   with_policy_fits number p f (over v g es) h = h
 
-  base_fits : (b : BaseChain) (f : Facts) (es : List Event) (end : HookResult) → RunsBaseChain plant tables b f es end → EndFits f end
+  base_fits : (b : BaseChain) (f : Facts) (es : List Event) (end : HookResult) → RunsBaseChain network tables b f es end → EndFits f end
   base_fits b f es end r =
       let right : RightTable r.table = if_some_at RightTable (slice_get tables b.number.table) r.table r.stands
-      (each_get RightTable tables b.number.table (tables_right tables plant well fits)) in
-      let p = table_program plant b.number.table r.table in
-      let rules = rules_right plant b.number.table r.table right in
+      (each_get RightTable tables b.number.table (tables_right tables network well fits)) in
+      let p = table_program network b.number.table r.table in
+      let rules = rules_right network b.number.table r.table right in
       subst (EndFits f) (sym r.is) (with_policy_fits b.number (policy_of b.head) f r.after
-      (runs_fit p RightStatement (λ s k place g. statement_fits (record { plant = plant; table = r.table }) (maps_right r.table right) s k.0 k.1 place g)
+      (runs_fit p RightStatement (λ s k place g. statement_fits (record { network = network; table = r.table }) (maps_right r.table right) s k.0 k.1 place g)
       rules r.runs (if_some_at (Every (Every RightStatement)) (p.rules_at b.number.chain) r.rules r.has (rules b.number.chain))))
 
   end_then : (f : Facts) (between end : HookResult) → EndFits f between → EndFits between.facts end → EndFits f end
   end_then f between end x y = (keeps_then f between.facts end.facts x.0 y.0, y.1)
 
-  in_turn_fits : (bs : List BaseChain) (f : Facts) (es : List Event) (end : HookResult) → InTurn plant tables bs f es end → EndFits f end
+  in_turn_fits : (bs : List BaseChain) (f : Facts) (es : List Event) (end : HookResult) → InTurn network tables bs f es end → EndFits f end
   in_turn_fits [] f es end e = subst (EndFits f) (sym e) (keeps_all f, tt)
   in_turn_fits (b ∷ bs) f es end (hooks.goes_on between x on y) =
       end_then f between end (base_fits b f es between x) (in_turn_fits bs between.facts between.events end y)
   in_turn_fits (b ∷ bs) f es end (hooks.stops x halts) = base_fits b f es end x
 
-  pub stage_fits : (stage : HookStage) (f : Facts) (es : List Event) (end : HookResult) → Stage stage plant tables f es end → EndFits f end
+  pub stage_fits : (stage : HookStage) (f : Facts) (es : List Event) (end : HookResult) → Stage stage network tables f es end → EndFits f end
   stage_fits stage f es end r = in_turn_fits r.order f es end r.run

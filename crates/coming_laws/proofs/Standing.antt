@@ -45,10 +45,10 @@ use Rattle.coming_laws.proofs.Translations.{IsStateOf, PacketIs, info_after_dest
 use Rattle.coming_laws.proofs.Translations.{packet_after_source, sort_after_destination, sort_after_source, state_after_nat, state_looked_up}
 
 -- a packet as received: its bytes are bytes, and its total length counts its header
-pub record IsReceived (plant : PlantTree) (a : ReceivedPacket) : Type 0 where
+pub record IsReceived (network : PlantTree) (a : ReceivedPacket) : Type 0 where
   pub bytes : Bytes a.packet
   pub long : 20 ≤ (packet_facts a.packet).length
-  pub ours : IsOurs plant a.interface
+  pub ours : IsOurs network a.interface
 
 -- the stages with an output interface
 abbrev pub leaves : HookStage → Bool
@@ -63,28 +63,28 @@ leaves stages.PostroutingNat = true
 leaves stages.PostroutingAfterNat = true
 
 abbrev pub IsOutput : PlantTree → Bool → Option Interface → Type 0
-IsOutput plant false None = Unit {0}
-IsOutput plant false (Some o) = ⊥
-IsOutput plant true None = ⊥
-IsOutput plant true (Some o) = (n : ℕ) × IsOurs plant n × (o ≡ interface_facts plant n)
+IsOutput network false None = Unit {0}
+IsOutput network false (Some o) = ⊥
+IsOutput network true None = ⊥
+IsOutput network true (Some o) = (n : ℕ) × IsOurs network n × (o ≡ interface_facts network n)
 
-pub record Standing (plant : PlantTree) (index : ℕ) (out : Bool) (f : Facts) : Type 0 where
+pub record Standing (network : PlantTree) (index : ℕ) (out : Bool) (f : Facts) : Type 0 where
   pub packet : PacketIs f.packet
-  pub input : f.input ≡ interface_facts plant index
-  pub output : IsOutput plant out f.output
+  pub input : f.input ≡ interface_facts network index
+  pub output : IsOutput network out f.output
   pub marks : MarksFit f
 
 -- after the look-up
-pub record Seen (plant : PlantTree) (index : ℕ) (out : Bool) (s : PathState) : Type 0 where
-  pub stands : Standing plant index out s.facts
+pub record Seen (network : PlantTree) (index : ℕ) (out : Bool) (s : PathState) : Type 0 where
+  pub stands : Standing network index out s.facts
   pub info : InfoFits s.info
   pub state : IsStateOf s.info (ct_state s.facts.ct)
 
-standing_kept : (plant : PlantTree) (index : ℕ) (out : Bool) (f g : Facts) → Keeps f g → Standing plant index out f → Standing plant index out g
-standing_kept plant index out f g k h = record {
+standing_kept : (network : PlantTree) (index : ℕ) (out : Bool) (f g : Facts) → Keeps f g → Standing network index out f → Standing network index out g
+standing_kept network index out f g k h = record {
   packet = subst PacketIs k.packet h.packet;
   input = sym k.input ∙ h.input;
-  output = subst (IsOutput plant out) k.output h.output;
+  output = subst (IsOutput network out) k.output h.output;
   marks = k.marks h.marks;
 }
 
@@ -132,12 +132,12 @@ beside_fits (Tracked c) live p h = others_fit (belonging_of live p) live h
 beside_fits (Related c) live p h = others_fit (belonging_of live p) live h
 beside_fits (New n) live p h = others_fit (belonging_of live p) live h
 
-module _ (setup : Setup) (well : WellFormed setup.rules setup.plant) (fits : AddressesFit setup.rules) (box : BoxFits setup.plant) (index : ℕ) where
+module _ (setup : Setup) (well : WellFormed setup.rules setup.network) (fits : AddressesFit setup.rules) (box : BoxFits setup.network) (index : ℕ) where
   abbrev pub StandingNow : Bool → Facts → Type 0
-  StandingNow out f = Standing setup.plant index out f
+  StandingNow out f = Standing setup.network index out f
 
   abbrev pub SeenNow : Bool → PathState → Type 0
-  SeenNow out s = Seen setup.plant index out s
+  SeenNow out s = Seen setup.network index out s
 
   -- ---- chains
 
@@ -146,24 +146,24 @@ module _ (setup : Setup) (well : WellFormed setup.rules setup.plant) (fits : Add
   stage_kept stage s t x =
       let is : t ≡ after_chains x.end s = continued x.end.verdict (after_chains x.end s) t x.is in
       subst (λ (u : PathState). Keeps s.facts u.facts × (s.info ≡ u.info)) (sym is)
-      ((stage_fits setup.rules setup.plant well fits stage s.facts s.events x.end x.ran).0, refl)
+      ((stage_fits setup.rules setup.network well fits stage s.facts s.events x.end x.ran).0, refl)
 
   pub stage_seen : (stage : HookStage) (out : Bool) (s t : PathState) → SeenNow out s → RunsStage setup stage s (Continue t) → SeenNow out t
   stage_seen stage out s t h x =
       let k = stage_kept stage s t x in
       record {
-        stands = standing_kept setup.plant index out s.facts t.facts k.0 h.stands;
+        stands = standing_kept setup.network index out s.facts t.facts k.0 h.stands;
         info = subst InfoFits k.1 h.info;
         state = subst (λ state. IsStateOf t.info state) k.0.state (subst (λ info. IsStateOf info (ct_state s.facts.ct)) k.1 h.state);
       }
 
   nat_chains_fit : (stage : HookStage) (info : CtInfo) (f : Facts) (es : List Event) (end : HookResult) → NatChains setup stage info f es end
-      → EndFits setup.rules setup.plant well fits f end
-  nat_chains_fit stage (New n) f es end x = stage_fits setup.rules setup.plant well fits stage f es end x
-  nat_chains_fit stage (Tracked c) f es end x = subst (EndFits setup.rules setup.plant well fits f) (sym x) (keeps_all f, tt)
-  nat_chains_fit stage (Related c) f es end x = subst (EndFits setup.rules setup.plant well fits f) (sym x) (keeps_all f, tt)
-  nat_chains_fit stage Invalid f es end x = subst (EndFits setup.rules setup.plant well fits f) (sym x) (keeps_all f, tt)
-  nat_chains_fit stage Untracked f es end x = subst (EndFits setup.rules setup.plant well fits f) (sym x) (keeps_all f, tt)
+      → EndFits setup.rules setup.network well fits f end
+  nat_chains_fit stage (New n) f es end x = stage_fits setup.rules setup.network well fits stage f es end x
+  nat_chains_fit stage (Tracked c) f es end x = subst (EndFits setup.rules setup.network well fits f) (sym x) (keeps_all f, tt)
+  nat_chains_fit stage (Related c) f es end x = subst (EndFits setup.rules setup.network well fits f) (sym x) (keeps_all f, tt)
+  nat_chains_fit stage Invalid f es end x = subst (EndFits setup.rules setup.network well fits f) (sym x) (keeps_all f, tt)
+  nat_chains_fit stage Untracked f es end x = subst (EndFits setup.rules setup.network well fits f) (sym x) (keeps_all f, tt)
 
   -- ---- translation
 
@@ -184,15 +184,15 @@ module _ (setup : Setup) (well : WellFormed setup.rules setup.plant) (fits : Add
       → DestinationNat setup mappings s (Continue t) → SeenNow out t
   destination_seen mappings all out s t h x =
       let end = x.end in
-      let after = after_destination_nat setup.plant mappings end.facts s.info end.verdict in
-      let k : EndFits setup.rules setup.plant well fits s.facts end = nat_chains_fit stages.PreroutingNat s.info s.facts s.events end x.ran in
+      let after = after_destination_nat setup.network mappings end.facts s.info end.verdict in
+      let k : EndFits setup.rules setup.network well fits s.facts end = nat_chains_fit stages.PreroutingNat s.info s.facts s.events end x.ran in
       let is : t ≡ record (after_chains end s) { facts = facts_after_destination_nat after end.facts; info = after } =
       after_destination end.verdict after (after_chains end s) t x.is in
       subst (SeenNow out) (sym is) (destined_seen out after end.facts end.events
-      (standing_kept setup.plant index out s.facts end.facts k.0 h.stands)
-      (info_after_destination setup.plant box.addresses mappings all end.facts s.info h.info end.verdict k.1)
+      (standing_kept setup.network index out s.facts end.facts k.0 h.stands)
+      (info_after_destination setup.network box.addresses mappings all end.facts s.info h.info end.verdict k.1)
       (subst (λ state. IsStateOf after state) k.0.state
-      (sort_after_destination setup.plant mappings end.facts s.info end.verdict (ct_state s.facts.ct) h.state)))
+      (sort_after_destination setup.network mappings end.facts s.info end.verdict (ct_state s.facts.ct) h.state)))
 
   sourced_seen : (out : Bool) (info : CtInfo) (f : Facts) (events : List Event) → StandingNow out f → InfoFits info → IsStateOf info (ct_state f.ct)
       → SeenNow out (record { facts = facts_after_source_nat info f; info = info; events = events })
@@ -219,16 +219,16 @@ module _ (setup : Setup) (well : WellFormed setup.rules setup.plant) (fits : Add
       → SourceNat setup mappings s (Continue t) → SeenNow out t
   source_seen mappings all out s t h x =
       let end = x.end in
-      let k : EndFits setup.rules setup.plant well fits s.facts end = nat_chains_fit stages.PostroutingNat s.info s.facts s.events end x.ran in
-      source_result out end.verdict (after_source_nat setup.plant mappings end.facts s.info end.verdict) (after_chains end s) t
-      (standing_kept setup.plant index out s.facts end.facts k.0 h.stands)
-      (info_after_source setup.plant box.addresses mappings all end.facts s.info h.info end.verdict k.1)
-      (subst (λ state. IfSome (after_source_nat setup.plant mappings end.facts s.info end.verdict) (λ i. IsStateOf i state)) k.0.state
-      (sort_after_source setup.plant mappings end.facts s.info end.verdict (ct_state s.facts.ct) h.state)) x.is
+      let k : EndFits setup.rules setup.network well fits s.facts end = nat_chains_fit stages.PostroutingNat s.info s.facts s.events end x.ran in
+      source_result out end.verdict (after_source_nat setup.network mappings end.facts s.info end.verdict) (after_chains end s) t
+      (standing_kept setup.network index out s.facts end.facts k.0 h.stands)
+      (info_after_source setup.network box.addresses mappings all end.facts s.info h.info end.verdict k.1)
+      (subst (λ state. IfSome (after_source_nat setup.network mappings end.facts s.info end.verdict) (λ i. IsStateOf i state)) k.0.state
+      (sort_after_source setup.network mappings end.facts s.info end.verdict (ct_state s.facts.ct) h.state)) x.is
 
   -- ---- routing
 
-  no_output : (o : Option Interface) → IsOutput setup.plant false o → o ≡ None
+  no_output : (o : Option Interface) → IsOutput setup.network false o → o ≡ None
   no_output None h = refl
   no_output (Some o) h = absurd h
 
@@ -241,12 +241,12 @@ module _ (setup : Setup) (well : WellFormed setup.rules setup.plant) (fits : Add
   abbrev sent_to : ℕ → PathState → PathState
   sent_to n s = record s {
     facts = record s.facts {
-      output = Some (interface_facts setup.plant n);
+      output = Some (interface_facts setup.network n);
       packet = record s.facts.packet { ttl = s.facts.packet.ttl - 1 };
     };
   }
 
-  sent_seen : (n : ℕ) (s : PathState) → IsOurs setup.plant n → SeenNow false s → SeenNow true (sent_to n s)
+  sent_seen : (n : ℕ) (s : PathState) → IsOurs setup.network n → SeenNow false s → SeenNow true (sent_to n s)
   sent_seen n s k h =
       let p = h.stands.packet in
       record {
@@ -271,27 +271,27 @@ module _ (setup : Setup) (well : WellFormed setup.rules setup.plant) (fits : Add
         state = h.state;
       }
 
-  sent_if : (b : Bool) (n : ℕ) (s u : PathState) → IsOurs setup.plant n → SeenNow false s
+  sent_if : (b : Bool) (n : ℕ) (s u : PathState) → IsOurs setup.network n → SeenNow false s
       → Continue u ≡ (if b then Drop causes.Ttl s else Continue (sent_to n s)) → SeenNow (leaves (stage_behind_routing u.facts.output)) u
   sent_if true n s u k h e = absurd cc
   sent_if false n s u k h e =
       subst (λ (v : PathState). SeenNow (leaves (stage_behind_routing v.facts.output)) v) (sym (ap final_state e)) (sent_seen n s k h)
 
-  forwarded_seen : (o : Option ℕ) (s u : PathState) → IfSome o (IsOurs setup.plant) → SeenNow false s → Continue u ≡ forwarded_by setup o s
+  forwarded_seen : (o : Option ℕ) (s u : PathState) → IfSome o (IsOurs setup.network) → SeenNow false s → Continue u ≡ forwarded_by setup o s
       → SeenNow (leaves (stage_behind_routing u.facts.output)) u
   forwarded_seen None s u k h e = absurd cc
   forwarded_seen (Some n) s u k h e = sent_if (nat_lt s.facts.packet.ttl 2) n s u k h e
 
   routed_if : (b : Bool) (s u : PathState) → SeenNow false s
-      → Continue u ≡ (if b then Continue s else forwarded_by setup (route setup.plant s.facts.packet.destination) s)
+      → Continue u ≡ (if b then Continue s else forwarded_by setup (route setup.network s.facts.packet.destination) s)
       → SeenNow (leaves (stage_behind_routing u.facts.output)) u
   routed_if true s u h e =
       subst (λ (v : PathState). SeenNow (leaves (stage_behind_routing v.facts.output)) v) (sym (ap final_state e)) (local_seen s h)
-  routed_if false s u h e = forwarded_seen (route setup.plant s.facts.packet.destination) s u
-      (route_leads setup.plant box s.facts.packet.destination) h e
+  routed_if false s u h e = forwarded_seen (route setup.network s.facts.packet.destination) s u
+      (route_leads setup.network box s.facts.packet.destination) h e
 
   pub routing_seen : (s u : PathState) → SeenNow false s → Routing setup s (Continue u) → SeenNow (leaves (stage_behind_routing u.facts.output)) u
-  routing_seen s u h e = routed_if (is_own setup.plant s.facts.packet.destination) s u h e
+  routing_seen s u h e = routed_if (is_own setup.network s.facts.packet.destination) s u h e
 
   -- ---- before the look-up
 
@@ -301,7 +301,7 @@ module _ (setup : Setup) (well : WellFormed setup.rules setup.plant) (fits : Add
   pub raw_kept : (s t : PathState) → RawNow s → RunsStage setup stages.PreroutingRaw s (Continue t) → RawNow t
   raw_kept s t h x =
       let k = stage_kept stages.PreroutingRaw s t x in
-      (standing_kept setup.plant index false s.facts t.facts k.0 h.0, sym k.0.state ∙ h.1)
+      (standing_kept setup.network index false s.facts t.facts k.0 h.0, sym k.0.state ∙ h.1)
 
   informed : (s : PathState) (info : CtInfo) → StandingNow false s.facts → InfoFits info → SeenNow false (with_info info s)
   informed s info h k = record {
@@ -333,8 +333,8 @@ module _ (setup : Setup) (well : WellFormed setup.rules setup.plant) (fits : Add
   behind_routing (Some o) s h = h
 
   module _ (live : List ConntrackEntry) (all : Every EntryFits live) (a : ReceivedPacket) (at_index : index ≡ a.interface)
-      (received : IsReceived setup.plant a) where
-    pub arrives : RawNow (on_arrival a.packet (interface_facts setup.plant a.interface))
+      (received : IsReceived setup.network a) where
+    pub arrives : RawNow (on_arrival a.packet (interface_facts setup.network a.interface))
     arrives = (
       record {
         packet = record {
@@ -349,7 +349,7 @@ module _ (setup : Setup) (well : WellFormed setup.rules setup.plant) (fits : Add
           header = header_is (protocol a.packet) (payload_of a.packet);
           long = received.long;
         };
-        input = ap (interface_facts setup.plant) (sym at_index);
+        input = ap (interface_facts setup.network) (sym at_index);
         output = tt;
         marks = (lit< tt, tt);
       },

@@ -104,33 +104,33 @@ lower_than : (n k : ℕ) → nat_lt n k ≡ true → n < k
 lower_than n k e = grind (arith, nat_tests)
 
 -- a value of type mark is below 2^32; no word is one, and no string or address
-mark_value : (plant : PlantTree) (v : ValueTree) → is_value (Named types.Mark) v ≡ true → (range_span plant (Named types.Mark) (tree.one v)).low < 2 ^ 32
-mark_value plant (tree.number n) e = lower_than n 4294967296 e
-mark_value plant (tree.address a) e = absurd cc
-mark_value plant (tree.word w) e = absurd cc
-mark_value plant (tree.string s) e = absurd cc
+mark_value : (network : PlantTree) (v : ValueTree) → is_value (Named types.Mark) v ≡ true → (range_span network (Named types.Mark) (tree.one v)).low < 2 ^ 32
+mark_value network (tree.number n) e = lower_than n 4294967296 e
+mark_value network (tree.address a) e = absurd cc
+mark_value network (tree.word w) e = absurd cc
+mark_value network (tree.string s) e = absurd cc
 
-mark_number : (plant : PlantTree) (v : ValueTree) → IfSome (number_of plant (Named types.Mark) v) (λ n. n < 2 ^ 32)
-mark_number plant v =
-    some_map (λ (s : Span). s.low < 2 ^ 32) (λ n. n < 2 ^ 32) (λ s. s.low) (λ s h. h) (numbers_of plant (Named types.Mark) (tree.one v))
-    (if_true (is_range plant (Named types.Mark) (tree.one v) && has_numbers plant (Named types.Mark) (tree.one v))
-    (range_span plant (Named types.Mark) (tree.one v)) (λ s. s.low < 2 ^ 32)
-    (λ e. mark_value plant v (first_true (is_value (Named types.Mark) v) (has_numbers plant (Named types.Mark) (tree.one v)) e)))
+mark_number : (network : PlantTree) (v : ValueTree) → IfSome (number_of network (Named types.Mark) v) (λ n. n < 2 ^ 32)
+mark_number network v =
+    some_map (λ (s : Span). s.low < 2 ^ 32) (λ n. n < 2 ^ 32) (λ s. s.low) (λ s h. h) (numbers_of network (Named types.Mark) (tree.one v))
+    (if_true (is_range network (Named types.Mark) (tree.one v) && has_numbers network (Named types.Mark) (tree.one v))
+    (range_span network (Named types.Mark) (tree.one v)) (λ s. s.low < 2 ^ 32)
+    (λ e. mark_value network v (first_true (is_value (Named types.Mark) v) (has_numbers network (Named types.Mark) (tree.one v)) e)))
 
 -- an address of the text fits
-address_value : (plant : PlantTree) (v : ValueTree) → DataFits (tree.to_value v) → is_value (Named types.Address) v ≡ true
-    → (range_span plant (Named types.Address) (tree.one v)).low < 2 ^ 32
-address_value plant (tree.number n) h e = absurd cc
-address_value plant (tree.address a) h e = h
-address_value plant (tree.word w) h e = absurd cc
-address_value plant (tree.string s) h e = absurd cc
+address_value : (network : PlantTree) (v : ValueTree) → DataFits (tree.to_value v) → is_value (Named types.Address) v ≡ true
+    → (range_span network (Named types.Address) (tree.one v)).low < 2 ^ 32
+address_value network (tree.number n) h e = absurd cc
+address_value network (tree.address a) h e = h
+address_value network (tree.word w) h e = absurd cc
+address_value network (tree.string s) h e = absurd cc
 
-address_number : (plant : PlantTree) (v : ValueTree) → DataFits (tree.to_value v) → IfSome (number_of plant (Named types.Address) v) (λ n. n < 2 ^ 32)
-address_number plant v h =
-    some_map (λ (s : Span). s.low < 2 ^ 32) (λ n. n < 2 ^ 32) (λ s. s.low) (λ s h. h) (numbers_of plant (Named types.Address) (tree.one v))
-    (if_true (is_range plant (Named types.Address) (tree.one v) && has_numbers plant (Named types.Address) (tree.one v))
-    (range_span plant (Named types.Address) (tree.one v)) (λ s. s.low < 2 ^ 32)
-    (λ e. address_value plant v h (first_true (is_value (Named types.Address) v) (has_numbers plant (Named types.Address) (tree.one v)) e)))
+address_number : (network : PlantTree) (v : ValueTree) → DataFits (tree.to_value v) → IfSome (number_of network (Named types.Address) v) (λ n. n < 2 ^ 32)
+address_number network v h =
+    some_map (λ (s : Span). s.low < 2 ^ 32) (λ n. n < 2 ^ 32) (λ s. s.low) (λ s h. h) (numbers_of network (Named types.Address) (tree.one v))
+    (if_true (is_range network (Named types.Address) (tree.one v) && has_numbers network (Named types.Address) (tree.one v))
+    (range_span network (Named types.Address) (tree.one v)) (λ s. s.low < 2 ^ 32)
+    (λ e. address_value network v h (first_true (is_value (Named types.Address) v) (has_numbers network (Named types.Address) (tree.one v)) e)))
 
 -- ---- maps
 
@@ -152,16 +152,16 @@ module _ (read : DataTree → Option ℕ) (Q : DataTree → Type 0) (reads : (d 
   pair_fits true d h = reads d h
   pair_fits false d h = tt
 
-  pairs_fit : (plant : PlantTree) (k : ComparedType) (ps : List PairTree) → Every (λ p. Q p.value) ps → (n : ℕ)
-      → IfSome (pairs_give read plant k ps n) (λ n. n < 2 ^ 32)
-  pairs_fit plant k [] h n = tt
-  pairs_fit plant k (p ∷ ps) h n = or_fits (pair_gives read plant k n p) (pairs_give read plant k ps n)
-      (pair_fits (spans (numbers_of plant k p.key) n) p.value h.0) (pairs_fit plant k ps h.1 n)
+  pairs_fit : (network : PlantTree) (k : ComparedType) (ps : List PairTree) → Every (λ p. Q p.value) ps → (n : ℕ)
+      → IfSome (pairs_give read network k ps n) (λ n. n < 2 ^ 32)
+  pairs_fit network k [] h n = tt
+  pairs_fit network k (p ∷ ps) h n = or_fits (pair_gives read network k n p) (pairs_give read network k ps n)
+      (pair_fits (spans (numbers_of network k p.key) n) p.value h.0) (pairs_fit network k ps h.1 n)
 
-  declared_fits : (plant : PlantTree) (o : Option MapTree) → IfSome o (λ m. Every (λ p. Q p.value) (some_of m.elements)) → (n : ℕ)
-      → IfSome (declared_gives read plant o n) (λ n. n < 2 ^ 32)
-  declared_fits plant None h n = tt
-  declared_fits plant (Some m) h n = pairs_fit plant (map_key_compared_type m.types) (some_of m.elements) h n
+  declared_fits : (network : PlantTree) (o : Option MapTree) → IfSome o (λ m. Every (λ p. Q p.value) (some_of m.elements)) → (n : ℕ)
+      → IfSome (declared_gives read network o n) (λ n. n < 2 ^ 32)
+  declared_fits network None h n = tt
+  declared_fits network (Some m) h n = pairs_fit network (map_key_compared_type m.types) (some_of m.elements) h n
 
   then_fits : (g : ℕ → Option ℕ) → ((n : ℕ) → IfSome (g n) (λ n. n < 2 ^ 32)) → (o : Option ℕ) → IfSome (option_and_then g o) (λ n. n < 2 ^ 32)
   then_fits g h None = tt
@@ -171,18 +171,18 @@ module _ (read : DataTree → Option ℕ) (Q : DataTree → Type 0) (reads : (d 
       → MapsOf Q scope.table → DataOf Q m
       → (f : Facts) → IfSome (looked_up read scope s m f) (λ n. n < 2 ^ 32)
   map_fits scope s (tree.named_map name) named listed f =
-      then_fits (map_gives read scope s (tree.named_map name)) (λ n. declared_fits scope.plant (map_named scope.table name) (named name) n) (value s f)
+      then_fits (map_gives read scope s (tree.named_map name)) (λ n. declared_fits scope.network (map_named scope.table name) (named name) n) (value s f)
   map_fits scope s (tree.pairs ps) named listed f =
-      then_fits (map_gives read scope s (tree.pairs ps)) (λ n. pairs_fit scope.plant (selector_compared_type s) ps listed n) (value s f)
+      then_fits (map_gives read scope s (tree.pairs ps)) (λ n. pairs_fit scope.network (selector_compared_type s) ps listed n) (value s f)
 
 -- ---- operands of marks
 
-mark_data : (scope : Scope) (d : DataTree) → IfSome (data_number scope.plant (Named types.Mark) d) (λ n. n < 2 ^ 32)
-mark_data scope (tree.to_value v) = mark_number scope.plant v
+mark_data : (scope : Scope) (d : DataTree) → IfSome (data_number scope.network (Named types.Mark) d) (λ n. n < 2 ^ 32)
+mark_data scope (tree.to_value v) = mark_number scope.network v
 mark_data scope (tree.to_verdict v) = tt
 
-address_data : (scope : Scope) (d : DataTree) → DataFits d → IfSome (data_number scope.plant (Named types.Address) d) (λ n. n < 2 ^ 32)
-address_data scope (tree.to_value v) h = address_number scope.plant v h
+address_data : (scope : Scope) (d : DataTree) → DataFits d → IfSome (data_number scope.network (Named types.Address) d) (λ n. n < 2 ^ 32)
+address_data scope (tree.to_value v) h = address_number scope.network v h
 address_data scope (tree.to_verdict v) h = tt
 
 any_data : (m : MapRefTree) → DataOf (λ d. Unit {0}) m
@@ -194,7 +194,7 @@ any_map t name = some_always (λ (m : MapTree). Every (λ (p : PairTree). Unit {
     (λ m. each_always (λ (p : PairTree). Unit {0}) (λ p. tt) (some_of m.elements)) (map_named t name)
 
 looked_up_mark : (scope : Scope) (l : MapLookupTree) (f : Facts) → IfSome (look_number scope types.Mark l f) (λ n. n < 2 ^ 32)
-looked_up_mark scope l f = map_fits (data_number scope.plant (Named types.Mark)) (λ d. Unit {0}) (λ d u. mark_data scope d) scope l.selector l.map
+looked_up_mark scope l f = map_fits (data_number scope.network (Named types.Mark)) (λ d. Unit {0}) (λ d u. mark_data scope d) scope l.selector l.map
     (any_map scope.table) (any_data l.map) f
 
 -- a ruleset's addresses
@@ -204,7 +204,7 @@ data_fits (tree.pairs ps) h = h
 
 looked_up_address : (scope : Scope) → MapsOf DataFits scope.table → (l : MapLookupTree) → RefFits l.map → (f : Facts)
     → IfSome (look_number scope types.Address l f) (λ n. n < 2 ^ 32)
-looked_up_address scope maps l h f = map_fits (data_number scope.plant (Named types.Address)) DataFits (address_data scope) scope l.selector l.map
+looked_up_address scope maps l h f = map_fits (data_number scope.network (Named types.Address)) DataFits (address_data scope) scope l.selector l.map
     maps (data_fits l.map h) f
 
 connection_mark : (c : CtFacts) → IsCt c → IfSome (of_connection (λ k. k.mark) c) (λ n. n < 2 ^ 32)

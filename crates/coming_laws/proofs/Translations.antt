@@ -51,15 +51,15 @@ use Rattle.coming_laws.proofs.Running.{HookVerdictFits}
 -- ---- the addresses of a box
 
 abbrev pub AddressesOf : PlantTree → Type 0
-AddressesOf plant = Every (λ (i : boxes.Interface). i.address < 2 ^ 32) plant.interfaces
+AddressesOf network = Every (λ (i : boxes.Interface). i.address < 2 ^ 32) network.interfaces
 
 or_zero : (o : Option ℕ) → IfSome o (λ n. n < 2 ^ 32) → unwrap_or o 0 < 2 ^ 32
 or_zero None h = lit< tt
 or_zero (Some n) h = h
 
-first_fits : (plant : PlantTree) → AddressesOf plant → (n : ℕ) → unwrap_or (first_address plant n) 0 < 2 ^ 32
-first_fits plant h n = or_zero (first_address plant n) (some_map (λ (i : boxes.Interface). i.address < 2 ^ 32) (λ a. a < 2 ^ 32) (λ i. i.address) (λ i k. k)
-    (find (has_index n) plant.interfaces) (each_find (λ i. i.address < 2 ^ 32) (has_index n) plant.interfaces h))
+first_fits : (network : PlantTree) → AddressesOf network → (n : ℕ) → unwrap_or (first_address network n) 0 < 2 ^ 32
+first_fits network h n = or_zero (first_address network n) (some_map (λ (i : boxes.Interface). i.address < 2 ^ 32) (λ a. a < 2 ^ 32) (λ i. i.address) (λ i k. k)
+    (find (has_index n) network.interfaces) (each_find (λ i. i.address < 2 ^ 32) (has_index n) network.interfaces h))
 
 -- ---- destinations
 
@@ -71,13 +71,13 @@ named_fits : (kind : Kind) (port : Option ℕ) (old : ℕ) → IfSome port (λ n
 named_fits kind None old h k = k
 named_fits kind (Some port) old h k = named_if (has_ports kind) port old h k
 
-destination_fits : (plant : PlantTree) → AddressesOf plant → (f : Facts) (n : NewConnection) → NewFits n → (t : NatAction) → ActionFits t
-    → EndpointFits (statement_destination plant f n t)
-destination_fits plant h f n k (nat_actions.Destination a port) t = (t.0, named_fits n.tuple.kind port n.tuple.destination.port t.1 k.tuple.1.1)
-destination_fits plant h f n k (nat_actions.Redirect port) t =
-    (first_fits plant h f.input.index, named_fits n.tuple.kind port n.tuple.destination.port t k.tuple.1.1)
-destination_fits plant h f n k (nat_actions.Source a ports) t = k.tuple.1
-destination_fits plant h f n k (nat_actions.Masquerade ports) t = k.tuple.1
+destination_fits : (network : PlantTree) → AddressesOf network → (f : Facts) (n : NewConnection) → NewFits n → (t : NatAction) → ActionFits t
+    → EndpointFits (statement_destination network f n t)
+destination_fits network h f n k (nat_actions.Destination a port) t = (t.0, named_fits n.tuple.kind port n.tuple.destination.port t.1 k.tuple.1.1)
+destination_fits network h f n k (nat_actions.Redirect port) t =
+    (first_fits network h f.input.index, named_fits n.tuple.kind port n.tuple.destination.port t k.tuple.1.1)
+destination_fits network h f n k (nat_actions.Source a ports) t = k.tuple.1
+destination_fits network h f n k (nat_actions.Masquerade ports) t = k.tuple.1
 
 inbound_fits : (kind : Kind) (e : Endpoint) (held : List Mapping) → Every MappingFits held → IfSome (inbound_of kind e held) EndpointFits
 unfolding inbound_of
@@ -92,26 +92,26 @@ internal_fits : (n : NewConnection) → NewFits n → (o : Option Endpoint) → 
 internal_fits n h None k = h
 internal_fits n h (Some e) k = record { original = h.original; tuple = (h.tuple.0, k); source = h.source; dest = (k, h.tuple.1) }
 
-destined : (plant : PlantTree) → AddressesOf plant → (mappings : List Mapping) → Every MappingFits mappings → (f : Facts) (n : NewConnection) → NewFits n
-    → (v : HookVerdict) → HookVerdictFits v → NewFits (with_destination_nat plant mappings f n v)
-destined plant h mappings all f n k (Translated t) w = record {
+destined : (network : PlantTree) → AddressesOf network → (mappings : List Mapping) → Every MappingFits mappings → (f : Facts) (n : NewConnection) → NewFits n
+    → (v : HookVerdict) → HookVerdictFits v → NewFits (with_destination_nat network mappings f n v)
+destined network h mappings all f n k (Translated t) w = record {
   original = k.original;
-  tuple = (k.tuple.0, destination_fits plant h f n k t w);
+  tuple = (k.tuple.0, destination_fits network h f n k t w);
   source = k.source;
   dest = k.dest;
 }
-destined plant h mappings all f n k Accepted w = internal_fits n k (internal_endpoint mappings n)
+destined network h mappings all f n k Accepted w = internal_fits n k (internal_endpoint mappings n)
     (if_endpoint (has_ports n.tuple.kind) (inbound_of n.tuple.kind n.tuple.destination mappings)
     (inbound_fits n.tuple.kind n.tuple.destination mappings all))
-destined plant h mappings all f n k Dropped w = k
+destined network h mappings all f n k Dropped w = k
 
-pub info_after_destination : (plant : PlantTree) → AddressesOf plant → (mappings : List Mapping) → Every MappingFits mappings → (f : Facts) (info : CtInfo)
-    → InfoFits info → (v : HookVerdict) → HookVerdictFits v → InfoFits (after_destination_nat plant mappings f info v)
-info_after_destination plant h mappings all f (New n) k v w = destined plant h mappings all f n k v w
-info_after_destination plant h mappings all f (Tracked c) k v w = k
-info_after_destination plant h mappings all f (Related c) k v w = k
-info_after_destination plant h mappings all f Invalid k v w = k
-info_after_destination plant h mappings all f Untracked k v w = k
+pub info_after_destination : (network : PlantTree) → AddressesOf network → (mappings : List Mapping) → Every MappingFits mappings → (f : Facts) (info : CtInfo)
+    → InfoFits info → (v : HookVerdict) → HookVerdictFits v → InfoFits (after_destination_nat network mappings f info v)
+info_after_destination network h mappings all f (New n) k v w = destined network h mappings all f n k v w
+info_after_destination network h mappings all f (Tracked c) k v w = k
+info_after_destination network h mappings all f (Related c) k v w = k
+info_after_destination network h mappings all f Invalid k v w = k
+info_after_destination network h mappings all f Untracked k v w = k
 
 -- ---- ports
 
@@ -186,25 +186,25 @@ source_fits kind internal address range held h r =
 abbrev ExternalFits : ExternalSource → Type 0
 ExternalFits x = (x.address < 2 ^ 32) × PortsFit x.ports
 
-statement_source_fits : (plant : PlantTree) → AddressesOf plant → (f : Facts) (t : NatAction) → ActionFits t → IfSome (statement_source plant f t) ExternalFits
-statement_source_fits plant h f (nat_actions.Source a ports) t = t
-statement_source_fits plant h f (nat_actions.Masquerade ports) t = (first_fits plant h (unwrap_or (option_map (λ i. i.index) f.output) 0), t)
-statement_source_fits plant h f (nat_actions.Destination a port) t = tt
-statement_source_fits plant h f (nat_actions.Redirect port) t = tt
+statement_source_fits : (network : PlantTree) → AddressesOf network → (f : Facts) (t : NatAction) → ActionFits t → IfSome (statement_source network f t) ExternalFits
+statement_source_fits network h f (nat_actions.Source a ports) t = t
+statement_source_fits network h f (nat_actions.Masquerade ports) t = (first_fits network h (unwrap_or (option_map (λ i. i.index) f.output) 0), t)
+statement_source_fits network h f (nat_actions.Destination a port) t = tt
+statement_source_fits network h f (nat_actions.Redirect port) t = tt
 
 if_external : (b : Bool) (x : ExternalSource) → ExternalFits x → IfSome (if b then None else Some x) ExternalFits
 if_external true x h = tt
 if_external false x h = h
 
-hairpin_fits : (plant : PlantTree) (entered : ℕ) (dest : Option Mapping) → IfSome dest MappingFits → IfSome (hairpin plant entered dest) ExternalFits
-hairpin_fits plant entered None h = tt
-hairpin_fits plant entered (Some m) h = if_external (is_same_interface entered (owner plant m.external.address)) _ (h.1.0, tt)
+hairpin_fits : (network : PlantTree) (entered : ℕ) (dest : Option Mapping) → IfSome dest MappingFits → IfSome (hairpin network entered dest) ExternalFits
+hairpin_fits network entered None h = tt
+hairpin_fits network entered (Some m) h = if_external (is_same_interface entered (owner network m.external.address)) _ (h.1.0, tt)
 
-external_fits : (plant : PlantTree) → AddressesOf plant → (f : Facts) (n : NewConnection) → NewFits n → (v : HookVerdict) → HookVerdictFits v
-    → IfSome (external_source plant f n v) ExternalFits
-external_fits plant h f n k (Translated t) w = statement_source_fits plant h f t w
-external_fits plant h f n k Accepted w = hairpin_fits plant f.input.index n.dest k.dest
-external_fits plant h f n k Dropped w = tt
+external_fits : (network : PlantTree) → AddressesOf network → (f : Facts) (n : NewConnection) → NewFits n → (v : HookVerdict) → HookVerdictFits v
+    → IfSome (external_source network f n v) ExternalFits
+external_fits network h f n k (Translated t) w = statement_source_fits network h f t w
+external_fits network h f n k Accepted w = hairpin_fits network f.input.index n.dest k.dest
+external_fits network h f n k Dropped w = tt
 
 range_fits : (ports : Option PortInterval) → PortsFit ports → RangeFits (range_of ports)
 range_fits None h = tt
@@ -219,14 +219,14 @@ sourced mappings all n h (Some x) k =
     (source_of n.tuple.kind n.tuple.source x.address (range_of x.ports) mappings)
     (source_fits n.tuple.kind n.tuple.source x.address (range_of x.ports) mappings all (range_fits x.ports k.1))
 
-pub info_after_source : (plant : PlantTree) → AddressesOf plant → (mappings : List Mapping) → Every MappingFits mappings → (f : Facts) (info : CtInfo)
-    → InfoFits info → (v : HookVerdict) → HookVerdictFits v → IfSome (after_source_nat plant mappings f info v) InfoFits
-info_after_source plant h mappings all f (New n) k v w = some_map NewFits InfoFits (λ after. New after) (λ after x. x)
-    (with_source_nat mappings n (external_source plant f n v)) (sourced mappings all n k (external_source plant f n v) (external_fits plant h f n k v w))
-info_after_source plant h mappings all f (Tracked c) k v w = k
-info_after_source plant h mappings all f (Related c) k v w = k
-info_after_source plant h mappings all f Invalid k v w = k
-info_after_source plant h mappings all f Untracked k v w = k
+pub info_after_source : (network : PlantTree) → AddressesOf network → (mappings : List Mapping) → Every MappingFits mappings → (f : Facts) (info : CtInfo)
+    → InfoFits info → (v : HookVerdict) → HookVerdictFits v → IfSome (after_source_nat network mappings f info v) InfoFits
+info_after_source network h mappings all f (New n) k v w = some_map NewFits InfoFits (λ after. New after) (λ after x. x)
+    (with_source_nat mappings n (external_source network f n v)) (sourced mappings all n k (external_source network f n v) (external_fits network h f n k v w))
+info_after_source network h mappings all f (Tracked c) k v w = k
+info_after_source network h mappings all f (Related c) k v w = k
+info_after_source network h mappings all f Invalid k v w = k
+info_after_source network h mappings all f Untracked k v w = k
 
 -- ---- what rules read of the packet
 
@@ -386,22 +386,22 @@ mark_after_nat Invalid c h = h
 mark_after_nat Untracked c h = h
 
 -- NAT doesn't change of which sort the state is
-pub sort_after_destination : (plant : PlantTree) (mappings : List Mapping) (f : Facts) (info : CtInfo) (v : HookVerdict) (state : Option ℕ)
-    → IsStateOf info state → IsStateOf (after_destination_nat plant mappings f info v) state
-sort_after_destination plant mappings f (New n) v state h = h
-sort_after_destination plant mappings f (Tracked c) v state h = h
-sort_after_destination plant mappings f (Related c) v state h = h
-sort_after_destination plant mappings f Invalid v state h = h
-sort_after_destination plant mappings f Untracked v state h = h
+pub sort_after_destination : (network : PlantTree) (mappings : List Mapping) (f : Facts) (info : CtInfo) (v : HookVerdict) (state : Option ℕ)
+    → IsStateOf info state → IsStateOf (after_destination_nat network mappings f info v) state
+sort_after_destination network mappings f (New n) v state h = h
+sort_after_destination network mappings f (Tracked c) v state h = h
+sort_after_destination network mappings f (Related c) v state h = h
+sort_after_destination network mappings f Invalid v state h = h
+sort_after_destination network mappings f Untracked v state h = h
 
 new_sort : (o : Option NewConnection) (state : Option ℕ) → state ≡ Some STATE_NEW → IfSome (option_map (λ after. New after) o) (λ i. IsStateOf i state)
 new_sort None state h = tt
 new_sort (Some n) state h = h
 
-pub sort_after_source : (plant : PlantTree) (mappings : List Mapping) (f : Facts) (info : CtInfo) (v : HookVerdict) (state : Option ℕ)
-    → IsStateOf info state → IfSome (after_source_nat plant mappings f info v) (λ i. IsStateOf i state)
-sort_after_source plant mappings f (New n) v state h = new_sort (with_source_nat mappings n (external_source plant f n v)) state h
-sort_after_source plant mappings f (Tracked c) v state h = h
-sort_after_source plant mappings f (Related c) v state h = h
-sort_after_source plant mappings f Invalid v state h = h
-sort_after_source plant mappings f Untracked v state h = h
+pub sort_after_source : (network : PlantTree) (mappings : List Mapping) (f : Facts) (info : CtInfo) (v : HookVerdict) (state : Option ℕ)
+    → IsStateOf info state → IfSome (after_source_nat network mappings f info v) (λ i. IsStateOf i state)
+sort_after_source network mappings f (New n) v state h = new_sort (with_source_nat mappings n (external_source network f n v)) state h
+sort_after_source network mappings f (Tracked c) v state h = h
+sort_after_source network mappings f (Related c) v state h = h
+sort_after_source network mappings f Invalid v state h = h
+sort_after_source network mappings f Untracked v state h = h

@@ -11,5 +11,5 @@ use Rattle.same_results.specs.Same.{SameAt}
 
 -- at each stage, with all facts of the box with which packets can come there
 abbrev pub AllSame : PlantTree → (old new : List TableTree) → Type 0
-AllSame plant old new = (stage : HookStage) (f : Facts) → IsOfBox (interfaces_of plant) f
-    → can_come_to stage f ≡ true → SameAt plant old new stage f
+AllSame network old new = (stage : HookStage) (f : Facts) → IsOfBox (interfaces_of network) f
+    → can_come_to stage f ≡ true → SameAt network old new stage f

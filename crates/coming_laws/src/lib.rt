@@ -33,14 +33,14 @@ pub fn spelled_addresses_fit()
 /// box's, and they are among those with which packets can come there.
 pub fn packets_come_as_they_can()
     // of a well-formed ruleset on a box
-    ensures well_formed { (text : List ℕ) (setup : Setup) → IsBox text setup.plant
-        → WellFormed setup.rules setup.plant → AddressesFit setup.rules
+    ensures well_formed { (text : List ℕ) (setup : Setup) → IsBox text setup.network
+        → WellFormed setup.rules setup.network → AddressesFit setup.rules
         → (stage : HookStage) (f : Facts) → ComesTo setup stage f
-        → IsOfBox (interfaces_of setup.plant) f × (can_come_to stage f ≡ true) }
+        → IsOfBox (interfaces_of setup.network) f × (can_come_to stage f ≡ true) }
     // of accepted texts
     ensures accepted { (rules box : List ℕ) (texts : Accepted rules box) (stage : HookStage)
         (f : Facts) → ComesTo texts.setup stage f
-        → IsOfBox (interfaces_of texts.setup.plant) f × (can_come_to stage f ≡ true) }
+        → IsOfBox (interfaces_of texts.setup.network) f × (can_come_to stage f ≡ true) }
 {
     spelled_addresses_fit();
 }
@@ -49,20 +49,20 @@ pub fn packets_come_as_they_can()
 /// come there, they do so with each packet that comes there in a run, and have the same runs.
 pub fn all_same_same_runs()
     ensures stages { (old new box : List ℕ) (before : Accepted old box) (after : Accepted new box)
-        → AllSame before.setup.plant before.setup.rules after.setup.rules
+        → AllSame before.setup.network before.setup.rules after.setup.rules
         → SameStages before.setup after.setup.rules }
     ensures runs { (old new box capture : List ℕ) (trace other_trace : Bool) (count others : ℕ)
         (torn other_torn : Bool) (sent other_sent report other_report : List ℕ)
         → (before : Meaning old box capture trace count torn sent report)
         → (after : Meaning new box capture other_trace others other_torn other_sent other_report)
-        → AreBytes capture → AllSame before.accepted.setup.plant before.accepted.setup.rules
+        → AreBytes capture → AllSame before.accepted.setup.network before.accepted.setup.rules
         after.accepted.setup.rules → SameRuns before after }
     // A capture that is refused within its records is so by both.
     ensures refused { (old new box capture : List ℕ) (trace other_trace : Bool)
         (fault other_fault : CaptureFault) (left left_now other_left other_left_now : Devices)
         → (before : RecordRefused old box capture trace fault left left_now)
         → (after : RecordRefused new box capture other_trace other_fault other_left other_left_now)
-        → AreBytes capture → AllSame before.taken_so_far.accepted.setup.plant
+        → AreBytes capture → AllSame before.taken_so_far.accepted.setup.network
         before.taken_so_far.accepted.setup.rules after.taken_so_far.accepted.setup.rules
         → SameRefusals before after }
 {

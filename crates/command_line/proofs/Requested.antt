@@ -49,7 +49,7 @@ abbrev pub run_form : Form
 run_form = record {
   name = codes "run";
   rules = (sub 0).rules;
-  ids = codes "rules" ∷ codes "plant" ∷ codes "input" ∷ codes "output" ∷ [];
+  ids = codes "rules" ∷ codes "network" ∷ codes "input" ∷ codes "output" ∷ [];
   flags = codes "trace" ∷ codes "explain" ∷ codes "no-explain" ∷ [];
   file_option = report_name;
   has_file = true;
@@ -61,7 +61,7 @@ abbrev pub check_form : Form
 check_form = record {
   name = codes "check";
   rules = (sub 1).rules;
-  ids = codes "rules" ∷ codes "plant" ∷ [];
+  ids = codes "rules" ∷ codes "network" ∷ [];
   flags = codes "all" ∷ codes "explain" ∷ codes "no-explain" ∷ codes "nft" ∷ [];
   file_option = report_name;
   has_file = false;
@@ -75,7 +75,7 @@ abbrev pub diff_form : Form
 diff_form = record {
   name = codes "diff";
   rules = (sub 3).rules;
-  ids = codes "old" ∷ codes "new" ∷ codes "plant" ∷ [];
+  ids = codes "old" ∷ codes "new" ∷ codes "network" ∷ [];
   flags = codes "explain" ∷ codes "no-explain" ∷ [];
   file_option = assume_name;
   has_file = true;

@@ -78,10 +78,10 @@ without_file name (word ∷ rest) = if bytes_eq word (codes "--") then word ∷ 
     else without_file_by (as_option name word) word rest (without_file name rest)
 
 abbrev pub path_texts : ReplayPaths → List Text
-path_texts p = p.rules.now ∷ p.plant.now ∷ p.input.now ∷ p.output.now ∷ []
+path_texts p = p.rules.now ∷ p.network.now ∷ p.input.now ∷ p.output.now ∷ []
 
 abbrev pub diff_texts : DiffPaths → List Text
-diff_texts p = p.old.now ∷ p.new.now ∷ p.plant.now ∷ []
+diff_texts p = p.old.now ∷ p.new.now ∷ p.network.now ∷ []
 
 abbrev pub name_of_file : Option (Bor Text) → Option Text
 name_of_file file = option_map (λ f. f.now) file
@@ -181,11 +181,11 @@ RequestsTask (program ∷ name ∷ rest) (Check task) =
     (name ≡ codes "check") × (AreTexts rest → is_check rest ≡ true)
     × (task.all ≡ has_flag (codes "--all") rest) × (task.nft ≡ has_flag (codes "--nft") rest)
     × (Some task.explaining ≡ explaining_in rest)
-    × (operands (without_flags check_flags rest) ≡ task.texts.rules.now ∷ task.texts.plant.now ∷ [])
+    × (operands (without_flags check_flags rest) ≡ task.texts.rules.now ∷ task.texts.network.now ∷ [])
 RequestsTask (program ∷ name ∷ rest) (Reach task) =
     (name ≡ codes "reach") × (AreTexts rest → is_reach rest ≡ true)
     × (task.sets ≡ has_flag (codes "--sets") rest) × (Some task.explaining ≡ explaining_in rest)
-    × (operands (without_flags reach_flags rest) ≡ task.texts.rules.now ∷ task.texts.plant.now ∷ [])
+    × (operands (without_flags reach_flags rest) ≡ task.texts.rules.now ∷ task.texts.network.now ∷ [])
 RequestsTask (program ∷ name ∷ rest) (Diff task) =
     (name ≡ codes "diff") × (AreTexts rest → is_diff rest ≡ true)
     × (name_of_file task.assumed ≡ file_given assume_name rest)

@@ -96,13 +96,13 @@ fn task_of<'a>(name: &str, given: &ArgMatches<'a>) -> Option<Task<'a>>
 // The paths of a run.
 fn replay_paths_of<'a>(given: &ArgMatches<'a>) -> ReplayPaths<'a>
     ensures rules { result.rules.now ≡ value_at (found_of given.now) (codes "rules") }
-    ensures plant { result.plant.now ≡ value_at (found_of given.now) (codes "plant") }
+    ensures network { result.network.now ≡ value_at (found_of given.now) (codes "network") }
     ensures input { result.input.now ≡ value_at (found_of given.now) (codes "input") }
     ensures output { result.output.now ≡ value_at (found_of given.now) (codes "output") }
 {
     ReplayPaths {
         rules: value_of(given, "rules"),
-        plant: value_of(given, "plant"),
+        network: value_of(given, "network"),
         input: value_of(given, "input"),
         output: value_of(given, "output"),
     }
@@ -112,23 +112,23 @@ fn replay_paths_of<'a>(given: &ArgMatches<'a>) -> ReplayPaths<'a>
 fn diff_paths_of<'a>(given: &ArgMatches<'a>) -> DiffPaths<'a>
     ensures old { result.old.now ≡ value_at (found_of given.now) (codes "old") }
     ensures new { result.new.now ≡ value_at (found_of given.now) (codes "new") }
-    ensures plant { result.plant.now ≡ value_at (found_of given.now) (codes "plant") }
+    ensures network { result.network.now ≡ value_at (found_of given.now) (codes "network") }
 {
     DiffPaths {
         old: value_of(given, "old"),
         new: value_of(given, "new"),
-        plant: value_of(given, "plant"),
+        network: value_of(given, "network"),
     }
 }
 
 // The paths of a ruleset and a box.
 fn texts_of<'a>(given: &ArgMatches<'a>) -> CheckPaths<'a>
     ensures rules { result.rules.now ≡ value_at (found_of given.now) (codes "rules") }
-    ensures plant { result.plant.now ≡ value_at (found_of given.now) (codes "plant") }
+    ensures network { result.network.now ≡ value_at (found_of given.now) (codes "network") }
 {
     CheckPaths {
         rules: value_of(given, "rules"),
-        plant: value_of(given, "plant"),
+        network: value_of(given, "network"),
     }
 }
 

@@ -186,7 +186,7 @@ static SUBCOMMANDS: [Subcommand; 5] = [
         help: Some(Help::Run),
         arguments: &[
             Argument::Path("rules", "RULES", "The file of the ruleset"),
-            Argument::Path("plant", "BOX", "The file of the box"),
+            Argument::Path("network", "BOX", "The file of the box"),
             Argument::Path("input", "IN", "The capture to read"),
             Argument::Path("output", "OUT", "The capture to write"),
             Argument::Flag("trace", TRACE_HELP),
@@ -201,7 +201,7 @@ static SUBCOMMANDS: [Subcommand; 5] = [
         help: Some(Help::Check),
         arguments: &[
             Argument::Path("rules", "RULES", "The file of the ruleset"),
-            Argument::Path("plant", "BOX", "The file of the box"),
+            Argument::Path("network", "BOX", "The file of the box"),
             Argument::Flag("all", ALL_HELP),
             Argument::Flag("explain", EXPLAIN_HELP),
             Argument::Flag("no-explain", NO_EXPLAIN_HELP),
@@ -214,7 +214,7 @@ static SUBCOMMANDS: [Subcommand; 5] = [
         help: Some(Help::Reach),
         arguments: &[
             Argument::Path("rules", "RULES", "The file of the ruleset"),
-            Argument::Path("plant", "BOX", "The file of the box"),
+            Argument::Path("network", "BOX", "The file of the box"),
             Argument::Flag("sets", SETS_HELP),
             Argument::Flag("explain", EXPLAIN_HELP),
             Argument::Flag("no-explain", NO_EXPLAIN_HELP),
@@ -227,7 +227,7 @@ static SUBCOMMANDS: [Subcommand; 5] = [
         arguments: &[
             Argument::Path("old", "OLD", "The file of the ruleset so far"),
             Argument::Path("new", "NEW", "The file of the ruleset to replace it"),
-            Argument::Path("plant", "BOX", "The file of the box"),
+            Argument::Path("network", "BOX", "The file of the box"),
             Argument::Flag("explain", EXPLAIN_HELP),
             Argument::Flag("no-explain", NO_EXPLAIN_HELP),
             Argument::File("assume", "FILTER", ASSUME_HELP),

@@ -48,7 +48,7 @@ pub struct ReplayPaths<'a> {
     /// RULES, the file of the ruleset.
     pub rules: &'a str,
     /// BOX, the file of the box that the ruleset is for.
-    pub plant: &'a str,
+    pub network: &'a str,
     /// IN, the capture that is read.
     pub input: &'a str,
     /// OUT, the capture that is written.
@@ -81,7 +81,7 @@ pub struct CheckPaths<'a> {
     /// RULES, the file of the ruleset.
     pub rules: &'a str,
     /// BOX, the file of the box that the ruleset is for.
-    pub plant: &'a str,
+    pub network: &'a str,
 }
 
 /// A comparison of two rulesets.
@@ -102,7 +102,7 @@ pub struct DiffPaths<'a> {
     /// NEW, the file of the ruleset that is to replace it.
     pub new: &'a str,
     /// BOX, the file of the box that both rulesets are for.
-    pub plant: &'a str,
+    pub network: &'a str,
 }
 
 impl Task<'_> {

@@ -50,9 +50,9 @@ tests-false : (o : Option ℕ) (p : ℕ → Bool) → ((n : ℕ) → o ≡ Some 
 tests-false None p h = refl
 tests-false (Some n) p h = false_from_ne_true (p n) (h n refl)
 
-module _ (plant : PlantTree) (number : ℕ) (t : TableTree) where
+module _ (network : PlantTree) (number : ℕ) (t : TableTree) where
   abbrev own : Program Statement
-  own = table_program plant number t
+  own = table_program network number t
 
   -- no packet gets past a verdict that ends the chain, behind counters and logs
   none-past : (c n k : ℕ) (ss : List Statement) (f g : Facts) → always_ends ss ≡ true → LeadsTo own c n k ss f g → ⊥
@@ -64,7 +64,7 @@ module _ (plant : PlantTree) (number : ℕ) (t : TableTree) where
   none-past c n k ss f g is to = false≢true is
 
   abbrev scope : Scope
-  scope = record { plant = plant; table = t }
+  scope = record { network = network; table = t }
 
   by-match : (c n : ℕ) (v : VerdictTree) (f g : Facts) (b : Bool) → ends_chain v ≡ true
       → goes_on (passes_if b) (LeadsTo own c n 2 (tree.verdict v ∷ [])) f g → (g ≡ f) × (b ≡ false)

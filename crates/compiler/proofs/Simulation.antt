@@ -291,23 +291,23 @@ module _ {S : Type 0} (p : Program S) (left_at : ℕ → Option (List (List S)))
 
 -- ---- a base chain: the machine's result is the one that its rules have
 
-module _ (plant : PlantTree) (tables : List TableTree) (b : BaseChain) (code : Code) (start : Start) where
+module _ (network : PlantTree) (tables : List TableTree) (b : BaseChain) (code : Code) (start : Start) where
   -- a result of the rules is that of the machine, by the code of their table
   pub runs-there : start_head start ≡ base_chain_head b → (t : TableCode) (weight : Statement → ℕ) (cost depth : ℕ → ℕ)
-      → (f : Facts) (es : List Event) (end : HookResult) (r : RunsBaseChain plant tables b f es end)
-      → slice_get code.tables.items b.number.table ≡ Some t → IsTableCode plant b.number.table r.table t
-      → IsRanking (table_program plant b.number.table r.table) weight cost depth → cost b.number.chain + 1 ≤ start.cost → depth b.number.chain ≤ 16
+      → (f : Facts) (es : List Event) (end : HookResult) (r : RunsBaseChain network tables b f es end)
+      → slice_get code.tables.items b.number.table ≡ Some t → IsTableCode network b.number.table r.table t
+      → IsRanking (table_program network b.number.table r.table) weight cost depth → cost b.number.chain + 1 ≤ start.cost → depth b.number.chain ≤ 16
       → end ≡ base_chain_result code start f es
   runs-there same_head t weight cost depth f es end r coded is costs_rank_chains enough shallow =
       let c = b.number.chain in
-      let p = table_program plant b.number.table r.table in
-      let q = left_program plant b.number.table r.table is.left in
+      let p = table_program network b.number.table r.table in
+      let q = left_program network b.number.table r.table is.left in
       let leaves : (c : ℕ) (rules : List (List Statement)) → p.rules_at c ≡ Some rules → LeavesOutOf p c rules (q.rules_at c) =
       λ c rules has. let found = some_of_map rules_in (slice_get (chains_of r.table) c) rules has in
-      leaves-of plant b.number.table r.table c rules (slice_get is.left c)
-      (subst (λ rs. IsSomeAnd (slice_get is.left c) (AreLeft rs (scope_of plant r.table))) found.2
-      (MatchOption-at_some (Unit {0}) (λ x. IsSomeAnd (slice_get is.left c) (AreLeft (rules_in x) (scope_of plant r.table))) found.0 found.1
-      (AllZip-left (λ x. AreLeft (rules_in x) (scope_of plant r.table)) (chains_of r.table) is.left is.are_left c))) in
+      leaves-of network b.number.table r.table c rules (slice_get is.left c)
+      (subst (λ rs. IsSomeAnd (slice_get is.left c) (AreLeft rs (scope_of network r.table))) found.2
+      (MatchOption-at_some (Unit {0}) (λ x. IsSomeAnd (slice_get is.left c) (AreLeft (rules_in x) (scope_of network r.table))) found.0 found.1
+      (AllZip-left (λ x. AreLeft (rules_in x) (scope_of network r.table)) (chains_of r.table) is.left is.are_left c))) in
       let sum = costs_rank_chains.sums c r.rules r.has in
       let d : Does t (rules_weigh p q.rules_at t weight cost depth r.rules) (λ go. enter_chain go (slice_get t.chain_offsets.items c) [] f es) [] r.after =
       entered p q.rules_at t weight cost depth is.laid_out costs_rank_chains leaves c r.rules f es r.has (omega arith)
@@ -321,9 +321,9 @@ module _ (plant : PlantTree) (tables : List TableTree) (b : BaseChain) (code : C
       (run_table (slice_get code.tables.items h.chain.table) h.chain.chain (start.cost - 1) f es 0).after) (sym same_head)
 
   -- then the machine's is one of the rules, since they have one
-  pub agrees : ((f : Facts) (es : List Event) (end : HookResult) → RunsBaseChain plant tables b f es end → end ≡ base_chain_result code start f es)
-      → ((f : Facts) (es : List Event) → (end : HookResult) × RunsBaseChain plant tables b f es end)
-      → (f : Facts) (es : List Event) (end : HookResult) → RunsBaseChain plant tables b f es end ↔ (end ≡ base_chain_result code start f es)
+  pub agrees : ((f : Facts) (es : List Event) (end : HookResult) → RunsBaseChain network tables b f es end → end ≡ base_chain_result code start f es)
+      → ((f : Facts) (es : List Event) → (end : HookResult) × RunsBaseChain network tables b f es end)
+      → (f : Facts) (es : List Event) (end : HookResult) → RunsBaseChain network tables b f es end ↔ (end ≡ base_chain_result code start f es)
   agrees there ends f es end =
       let e = ends f es in
-      (there f es end, λ is_end. subst (RunsBaseChain plant tables b f es) (there f es e.0 e.1 ∙ sym is_end) e.1)
+      (there f es end, λ is_end. subst (RunsBaseChain network tables b f es) (there f es e.0 e.1 ∙ sym is_end) e.1)

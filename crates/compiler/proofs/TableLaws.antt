@@ -60,23 +60,23 @@ sum_more Has chains place chain old new is added so =
 sum_none : (Has : ChainTree → ℕ → Type 0) (total : ℕ) → total ≡ 0 → IsSumOver Has [] total
 sum_none Has total none = record { numbers = []; each = tt; is_sum = omega (arith, none) }
 
-module _ (plant : PlantTree) (number : ℕ) (t : TableTree) where
+module _ (network : PlantTree) (number : ℕ) (t : TableTree) where
   -- how many merged rules and tables a chain has
   abbrev CountsMerged : ChainTree → ℕ → Type 0
-  CountsMerged chain = HasMerged (rules_in chain) (scope_of plant t)
+  CountsMerged chain = HasMerged (rules_in chain) (scope_of network t)
 
   abbrev CountsTables : ChainTree → ℕ → Type 0
-  CountsTables chain = HasTables (rules_in chain) (scope_of plant t)
+  CountsTables chain = HasTables (rules_in chain) (scope_of network t)
 
   -- what is left of the rules of chain c is in the code, from the chain's offset on, whatever is added later
   abbrev IsPlaced : TableCode → ℕ → List (Option (List Statement)) → Type 0
   IsPlaced now c rules = (at_step : ℕ) × (slice_get now.chain_offsets.items c ≡ Some at_step) × ((later : TableCode) → ExtendsCode now later
-      → RulesAt (table_program plant number t) later at_step c 1 (map left_statements rules))
+      → RulesAt (table_program network number t) later at_step c 1 (map left_statements rules))
 
   -- loop invariant: the first chains of the table are in the code
   pub record ChainsSoFar (place : ℕ) (now : TableCode) : Type 0 where
     pub left : List (List (Option (List Statement)))
-    pub are_left : AllZip (λ chain rules. AreLeft (rules_in chain) (scope_of plant t) rules) (take place (chains_of t)) left
+    pub are_left : AllZip (λ chain rules. AreLeft (rules_in chain) (scope_of network t) rules) (take place (chains_of t)) left
     pub count : length left ≡ place
     pub offsets : length now.chain_offsets.items ≡ place
     pub placed : (c : ℕ) (rules : List (Option (List Statement))) → slice_get left c ≡ Some rules → IsPlaced now c rules
@@ -101,11 +101,11 @@ module _ (plant : PlantTree) (number : ℕ) (t : TableTree) where
 
   pub chains_more : (place : ℕ) (chain : ChainTree) (offsets : Vec ℕ Global) (now new : TableCode) → slice_get (chains_of t) place ≡ Some chain
       → offsets.items ≡ now.chain_offsets.items ++ length now.steps.items ∷ []
-      → AddsChain plant number t place chain (record now { chain_offsets = offsets }) new → ChainsSoFar place now → ChainsSoFar (place + 1) new
+      → AddsChain network number t place chain (record now { chain_offsets = offsets }) new → ChainsSoFar place now → ChainsSoFar (place + 1) new
   chains_more place chain offsets now new is pushed added so = record {
     left = so.left ++ added.left ∷ [];
     are_left = rw (take_more (chains_of t) place chain within, get_or_from_slice_get (chains_of t) place chain chain is)
-        (all_zipped_more (λ c rules. AreLeft (rules_in c) (scope_of plant t) rules) (take place (chains_of t)) so.left chain added.left
+        (all_zipped_more (λ c rules. AreLeft (rules_in c) (scope_of network t) rules) (take place (chains_of t)) so.left chain added.left
         so.are_left added.are_left);
     count = length-append so.left (added.left ∷ []) ∙ ap (λ n. n + 1) so.count;
     offsets = ap (λ ps. length ps.items) added.adds.same_places ∙ ap length pushed
@@ -143,19 +143,19 @@ module _ (plant : PlantTree) (number : ℕ) (t : TableTree) where
 
   -- the same steps, of a program with other rules
   module _ (left : List (List (Option (List Statement)))) (code : TableCode) where
-    statements-as : (at_step c n k : ℕ) (ss : List Statement) → StatementsAt (table_program plant number t) code at_step c n k ss
-        → StatementsAt (left_program plant number t left) code at_step c n k ss
+    statements-as : (at_step c n k : ℕ) (ss : List Statement) → StatementsAt (table_program network number t) code at_step c n k ss
+        → StatementsAt (left_program network number t left) code at_step c n k ss
     statements-as at_step c n k [] here = tt
     statements-as at_step c n k (s ∷ ss) here =
         let is = here.0.2 in
         ((here.0.0, here.0.1, record { rule = is.rule; skip = is.skip; effect = is.effect }), statements-as (at_step + 1) c n (k + 1) ss here.1)
 
-    rules-as : (at_step c n : ℕ) (rs : List (List Statement)) → RulesAt (table_program plant number t) code at_step c n rs
-        → RulesAt (left_program plant number t left) code at_step c n rs
+    rules-as : (at_step c n : ℕ) (rs : List (List Statement)) → RulesAt (table_program network number t) code at_step c n rs
+        → RulesAt (left_program network number t left) code at_step c n rs
     rules-as at_step c n [] here = here
     rules-as at_step c n (r ∷ rs) here = (statements-as at_step c n 1 r here.0, rules-as (at_step + length r) c (n + 1) rs here.1)
 
-  pub chains_all : (place : ℕ) (now : TableCode) → length (chains_of t) ≤ place → ChainsSoFar place now → IsTableCode plant number t now
+  pub chains_all : (place : ℕ) (now : TableCode) → length (chains_of t) ≤ place → ChainsSoFar place now → IsTableCode network number t now
   chains_all place now past so = record {
     left = so.left;
     are_left = rw (take_all place (chains_of t) past) at so.are_left;
@@ -175,14 +175,14 @@ module _ (plant : PlantTree) (number : ℕ) (t : TableTree) where
 -- ---- the tables of a ruleset
 
 -- one more
-pub codes_more : (plant : PlantTree) (ts : List TableTree) (codes : List TableCode) (t : TableTree) (code : TableCode) → AreTableCodes plant ts codes
-    → IsTableCode plant (length codes) t code → AreTableCodes plant (ts ++ t ∷ []) (codes ++ code ∷ [])
-codes_more plant ts codes t code so is = record {
+pub codes_more : (network : PlantTree) (ts : List TableTree) (codes : List TableCode) (t : TableTree) (code : TableCode) → AreTableCodes network ts codes
+    → IsTableCode network (length codes) t code → AreTableCodes network (ts ++ t ∷ []) (codes ++ code ∷ [])
+codes_more network ts codes t code so is = record {
   each = λ i u has. ⊎_elim (λ early. let old = so.each i u early in (old.0, keeps_push codes code i old.0 old.1, old.2))
       (λ last. let place : length codes ≡ i = so.same_length ∙ last.0 in (
         code,
         subst (λ k. slice_get (codes ++ code ∷ []) k ≡ Some code) place (slice_get-push codes code),
-        subst (λ v. IsTableCode plant i v code) last.1 (subst (λ k. IsTableCode plant k t code) place is),
+        subst (λ v. IsTableCode network i v code) last.1 (subst (λ k. IsTableCode network k t code) place is),
       )) (push-cases ts t i u has);
   same_length = length-append codes (code ∷ []) ∙ ap (λ n. n + 1) so.same_length ∙ sym (length-append ts (t ∷ []));
 }

@@ -65,7 +65,7 @@ AgreesWithRules checked code = (hook : Hook) (start : Start) (b : BaseChain)
     → Contains (starts_of code hook) start → Contains (base_chains_of checked.rules) b
     → start_head start ≡ base_chain_head b
     → (f : Facts) (es : List Event) (end : HookResult)
-    → RunsBaseChain checked.plant checked.rules b f es end ↔ (end ≡ base_chain_result code start f es)
+    → RunsBaseChain checked.network checked.rules b f es end ↔ (end ≡ base_chain_result code start f es)
 
 -- ---- cost
 

@@ -18,7 +18,7 @@ use std::alloc::{AllocError, Global};
 
 /// The code of each table, and the starts of each hook.
 fn ruleset_code(alloc: Global, checked: &Checked) -> Result<Code, AllocError>
-    requires { WellFormed checked.now.rules checked.now.plant }
+    requires { WellFormed checked.now.rules checked.now.network }
     ensures { IfOk result (λ code. IsRulesetCode checked.now code) }
 {
     let names = checked.names(alloc)?;
@@ -51,7 +51,7 @@ pub fn compile(alloc: Global, checked: &Checked) -> Result<Code, AllocError>
         → HasStarts checked.now.rules hook (starts_of code hook)) }
     ensures runs { IfOk result (λ code. AgreesWithRules checked.now code) }
     ensures steps { IfOk result (λ code.
-        AreTableCodes checked.now.plant checked.now.rules code.tables.items) }
+        AreTableCodes checked.now.network checked.now.rules code.tables.items) }
     ensures total { IfOk result (λ code. (cost : TableTree → Caller → ℕ)
         → AreAllCosts checked.now.rules cost
         → total_cost code ≡ ruleset_cost cost checked.now.rules) }

@@ -77,7 +77,7 @@ pub(crate) fn add_base_chains<'t>(
     bases: &mut Vec<CompiledChain<'t>>,
 ) -> Result<(), AllocError>
     requires names { names.now ≡ checked.now.rules }
-    requires bounds { list_any (has_wrong_value checked.now.plant) names.now ≡ false }
+    requires bounds { list_any (has_wrong_value checked.now.network) names.now ≡ false }
     requires none { bases.old.items ≡ [] }
     ensures { OnOk result ((price : ChainNo → ℕ) → Prices checked.now.rules price
         → map costed bases.new.items ≡ map (priced price) (base_chains_of checked.now.rules)) }

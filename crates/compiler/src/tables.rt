@@ -18,20 +18,20 @@ use std::alloc::{AllocError, Global};
 /// Adds the chains of a table to its code; `table` is its number.
 fn add_chains(
     alloc: Global,
-    plant: &Plant,
+    network: &Plant,
     names: &TableNames,
     table: u32,
     code: &mut TableCode,
 ) -> Result<(), AllocError>
     requires types { table_mismatches names.now ≡ false }
     requires bounds { list_any item_out_of_range names.now.items ≡ false }
-    requires declared { HasDeclared plant.now names.now code.old.lookups }
+    requires declared { HasDeclared network.now names.now code.old.lookups }
     requires no_steps { code.old.steps.items ≡ [] }
     requires no_chains { code.old.chain_offsets.items ≡ [] }
     requires no_tables { code.old.tables ≡ 0 }
     requires none_merged { code.old.merged ≡ 0 }
     requires none_dropped { code.old.dropped ≡ 0 }
-    ensures { OnOk result (IsTableCode plant.now table names.now code.new) }
+    ensures { OnOk result (IsTableCode network.now table names.now code.new) }
 {
     for (place, chain) in names.chains().iter().enumerate() {
         let number = ChainNo {
@@ -39,7 +39,7 @@ fn add_chains(
             chain: to_u32(place)?,
         };
         code.chain_offsets.push(code.steps.list().len())?;
-        add_chain(alloc, plant, names, number, chain, code)?;
+        add_chain(alloc, network, names, number, chain, code)?;
     }
     Ok(())
 }
@@ -47,40 +47,40 @@ fn add_chains(
 /// The code of one table; `table` is its number.
 fn table_code(
     alloc: Global,
-    plant: &Plant,
+    network: &Plant,
     names: &TableNames,
     table: u32,
 ) -> Result<TableCode, AllocError>
     requires types { table_mismatches names.now ≡ false }
     requires bounds { list_any item_out_of_range names.now.items ≡ false }
-    ensures { IfOk result (λ code. IsTableCode plant.now table names.now code) }
+    ensures { IfOk result (λ code. IsTableCode network.now table names.now code) }
 {
     let mut code = TableCode {
-        lookups: declared(alloc, plant, names)?,
+        lookups: declared(alloc, network, names)?,
         steps: StepList::new(alloc),
         chain_offsets: Vec::new(alloc),
         tables: 0,
         merged: 0,
         dropped: 0,
     };
-    add_chains(alloc, plant, names, table, &mut code)?;
+    add_chains(alloc, network, names, table, &mut code)?;
     Ok(code)
 }
 
 /// Adds the code of each table, in text order.
 pub(crate) fn add_tables(
     alloc: Global,
-    plant: &Plant,
+    network: &Plant,
     names: &[TableNames],
     codes: &mut Vec<IndexedTable>,
 ) -> Result<(), AllocError>
     requires types { list_any table_mismatches names.now ≡ false }
-    requires bounds { list_any (has_wrong_value plant.now) names.now ≡ false }
+    requires bounds { list_any (has_wrong_value network.now) names.now ≡ false }
     requires none { codes.old.items ≡ [] }
-    ensures { OnOk result (AreTableCodes plant.now names.now codes.new.items) }
+    ensures { OnOk result (AreTableCodes network.now names.now codes.new.items) }
 {
     for (number, table) in names.iter().enumerate() {
-        let code = table_code(alloc, plant, table, to_u32(number)?)?;
+        let code = table_code(alloc, network, table, to_u32(number)?)?;
         codes.push(IndexedTable::new(alloc, code)?)?;
     }
     Ok(())

@@ -35,14 +35,14 @@ static OWN: [Own; 4] = [
 fn own_addresses_have_routes(rt: HostRuntime) {
     for row in 0..OWN.len() {
         let (text, groups, route) = OWN[row];
-        let plant = Plant::read(rt.alloc(), text).expect(&rt, "a box");
-        check_row(&rt, row, plant.route(u32::from_be_bytes(groups)) == route);
+        let network = Plant::read(rt.alloc(), text).expect(&rt, "a box");
+        check_row(&rt, row, network.route(u32::from_be_bytes(groups)) == route);
     }
 }
 
 #[test]
 fn other_interfaces_have_no_address(rt: HostRuntime) {
-    let plant = Plant::read(rt.alloc(), TWO).expect(&rt, "a box");
-    check_row(&rt, 0, plant.first_address(1).is_none());
-    check_row(&rt, 1, plant.first_address(4).is_none());
+    let network = Plant::read(rt.alloc(), TWO).expect(&rt, "a box");
+    check_row(&rt, 0, network.first_address(1).is_none());
+    check_row(&rt, 1, network.first_address(4).is_none());
 }

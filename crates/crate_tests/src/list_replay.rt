@@ -20,36 +20,36 @@ const MOST_PENDING: usize = 4096;
 #[derive(Drop)]
 struct Replay {
     engine: Engine<ListTracker>,
-    numbers: Report,
+    report: Report,
     records: Capture,
     sink: Sink,
 }
 
 /// Both texts, checked.
-fn checked(alloc: Global, rules: &[u8], plant: &[u8]) -> Result<Checked, RunFault> {
+fn checked(alloc: Global, rules: &[u8], network: &[u8]) -> Result<Checked, RunFault> {
     let ruleset = parse(alloc, rules)?;
-    let plant = Plant::read(alloc, plant)?;
-    Ok(check(alloc, ruleset, plant)?)
+    let network = Plant::read(alloc, network)?;
+    Ok(check(alloc, ruleset, network)?)
 }
 
 /// Writes the packets that leave, and the report. Returns whether the capture ends inside a record.
 pub fn replay_capture<R: Read, W: Write, W2: Write>(
     alloc: Global,
     rules: &[u8],
-    plant: &[u8],
+    network: &[u8],
     trace: bool,
     capture: &mut Counted<R>,
     sent: &mut Counted<W>,
     report: &mut Counted<W2>,
 ) -> Result<bool, RunFault> {
-    let checked = checked(alloc, rules, plant)?;
+    let checked = checked(alloc, rules, network)?;
     let records = Capture::open(alloc, capture)?;
     let engine = Engine::new(alloc, checked)?;
-    let numbers = Report::new(alloc, engine.rules(), trace)?;
+    let told = Report::new(alloc, engine.rules(), trace)?;
     let sink = Sink::open(alloc, sent)?;
     let mut replay = Replay {
         engine,
-        numbers,
+        report: told,
         records,
         sink,
     };
@@ -84,11 +84,11 @@ impl Replay {
         sent: &mut Counted<W>,
         report: &mut Counted<W2>,
     ) -> Result<(), RunFault> {
-        if self.records.is_ready() && self.numbers.pending() <= MOST_PENDING {
+        if self.records.is_ready() && self.report.pending() <= MOST_PENDING {
             return Ok(());
         }
         self.sink.send(sent)?;
-        self.numbers.drain(self.engine.rules(), report)?;
+        self.report.drain(self.engine.rules(), report)?;
         Ok(())
     }
 
@@ -97,12 +97,12 @@ impl Replay {
         let Some(record) = self.records.record() else {
             return Ok(());
         };
-        if self.engine.records() >= MOST_RECORDS || self.numbers.records() >= MOST_RECORDS {
+        if self.engine.records() >= MOST_RECORDS || self.report.records() >= MOST_RECORDS {
             return Err(RunFault::Capture(CaptureFault::TooMany));
         }
         self.engine.step(&record)?;
         let Processed { entry, leaving } = self.engine.newest();
-        self.numbers.note(&entry)?;
+        self.report.note(&entry)?;
         if let Some(leaving) = leaving {
             self.sink.put(sent, &leaving)?;
         }
@@ -122,7 +122,7 @@ impl Replay {
             None => false,
             Some(CaptureFault::TornEnd) => true,
             Some(fault) => {
-                self.numbers.drain(self.engine.rules(), report)?;
+                self.report.drain(self.engine.rules(), report)?;
                 return match report.flush() {
                     Ok(()) => Err(RunFault::Capture(fault)),
                     Err(_) => Err(RunFault::Device),
@@ -130,7 +130,7 @@ impl Replay {
             }
         };
         let live = self.engine.live() as u64;
-        self.numbers.lines(self.engine.rules(), live, torn, report)?;
+        self.report.lines(self.engine.rules(), live, torn, report)?;
         Ok(torn)
     }
 }

@@ -18,7 +18,7 @@ use std::{fs, io};
 struct Words<'a> {
     trace: bool,
     rules: &'a str,
-    plant: &'a str,
+    network: &'a str,
     input: &'a str,
     output: &'a str,
 }
@@ -32,13 +32,13 @@ fn read_words(words: &[String]) -> Option<Words<'_>> {
         [run, paths @ ..] if run.as_str() == "run" => (false, paths),
         _ => return None,
     };
-    let [rules, plant, input, output] = paths else {
+    let [rules, network, input, output] = paths else {
         return None;
     };
     Some(Words {
         trace,
         rules: rules.as_str(),
-        plant: plant.as_str(),
+        network: network.as_str(),
         input: input.as_str(),
         output: output.as_str(),
     })
@@ -55,13 +55,13 @@ fn fault_of(error: &io::Error) -> RunFault {
 /// Runs the packets of a file. Returns whether the capture ends inside a record.
 fn run_files<R: Files + Print + AllocGlobal>(rt: &R, words: &Words<'_>) -> Result<bool, RunFault> {
     let rules = fs::read(rt, words.rules).map_err(|error| fault_of(&error))?;
-    let plant = fs::read(rt, words.plant).map_err(|error| fault_of(&error))?;
+    let network = fs::read(rt, words.network).map_err(|error| fault_of(&error))?;
     let input = fs::open(rt, words.input).map_err(|error| fault_of(&error))?;
     let output = fs::create(rt, words.output).map_err(|error| fault_of(&error))?;
     replay_capture(
         rt.alloc(),
         &rules,
-        &plant,
+        &network,
         words.trace,
         &mut Counted::new(input),
         &mut Counted::new(output),

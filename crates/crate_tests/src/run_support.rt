@@ -71,9 +71,9 @@ fn hasher() -> io::Result<RandomState> {
 
 /// The rules, checked for `BOX`; `None` if they are refused, or there was no memory.
 fn checked(alloc: Global, rules: &[u8]) -> Option<Checked> {
-    let plant = Plant::read(alloc, BOX).ok()?;
+    let network = Plant::read(alloc, BOX).ok()?;
     match parse(alloc, rules) {
-        Ok(tree) => check(alloc, tree, plant).ok(),
+        Ok(tree) => check(alloc, tree, network).ok(),
         Err(_) => None,
     }
 }
@@ -166,7 +166,7 @@ fn ended(writer: Counted<Calls<Failing<Slow<Vec<u8>>>>>) -> (u64, u64, Vec<u8>) 
 fn status_of<R: Read, W: Write>(
     alloc: Global,
     rules: &[u8],
-    plant: &[u8],
+    network: &[u8],
     reader: &mut Counted<R>,
     sent: &mut Counted<W>,
     report: &mut Counted<W>,
@@ -175,7 +175,7 @@ fn status_of<R: Read, W: Write>(
     let Ok(hasher) = hasher() else {
         return Status::of(Err(&RunFault::Device));
     };
-    match run(alloc, hasher, rules, plant, reader, sent, report, trace) {
+    match run(alloc, hasher, rules, network, reader, sent, report, trace) {
         Ok(summary) => Status::of(Ok(summary.torn)),
         Err(fault) => Status::of(Err(&fault)),
     }
@@ -185,7 +185,7 @@ fn status_of<R: Read, W: Write>(
 pub fn run_over(
     alloc: Global,
     rules: &[u8],
-    plant: &[u8],
+    network: &[u8],
     capture: &[u8],
     trace: bool,
     device_settings: DeviceSettings,
@@ -198,7 +198,7 @@ pub fn run_over(
     let status = status_of(
         alloc,
         rules,
-        plant,
+        network,
         &mut reader,
         &mut sent,
         &mut report,

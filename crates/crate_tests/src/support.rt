@@ -33,15 +33,15 @@ pub fn repeated<R: Abort + AllocGlobal>(
 }
 
 /// The code of a ruleset on a box; `None` if the ruleset is refused.
-pub fn code_of<R: Abort + AllocGlobal>(rt: &R, rules: &[u8], plant: &[u8]) -> Option<Code> {
-    let checked = checked(rt, rules, plant)?;
+pub fn code_of<R: Abort + AllocGlobal>(rt: &R, rules: &[u8], network: &[u8]) -> Option<Code> {
+    let checked = checked(rt, rules, network)?;
     compile(rt.alloc(), &checked).ok()
 }
 
-fn checked<R: Abort + AllocGlobal>(rt: &R, rules: &[u8], plant: &[u8]) -> Option<Checked> {
-    let plant = Plant::read(rt.alloc(), plant).expect(rt, "a box");
+fn checked<R: Abort + AllocGlobal>(rt: &R, rules: &[u8], network: &[u8]) -> Option<Checked> {
+    let network = Plant::read(rt.alloc(), network).expect(rt, "a box");
     match parse(rt.alloc(), rules) {
-        Ok(tree) => check(rt.alloc(), tree, plant).ok(),
+        Ok(tree) => check(rt.alloc(), tree, network).ok(),
         Err(_) => None,
     }
 }

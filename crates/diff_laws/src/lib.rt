@@ -18,7 +18,7 @@ pub fn told_same_same_runs()
         (torn other_torn : Bool) (sent other_sent report other_report : List ℕ)
         → (before : Meaning old box capture trace count torn sent report)
         → (after : Meaning new box capture other_trace others other_torn other_sent other_report)
-        → AreBytes capture → (text : List ℕ) → Tells before.accepted.setup.plant
+        → AreBytes capture → (text : List ℕ) → Tells before.accepted.setup.network
         before.accepted.setup.rules after.accepted.setup.rules (λ f. true) true text
         → SameRuns before after }
 {

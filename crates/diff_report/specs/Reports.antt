@@ -11,19 +11,19 @@ use Rattle.ruleset_diff.specs.Differences.{Comes, DiffersAt}
 abbrev pub same_line : Text
 same_line = codes "the same for every packet\n"
 
-module _ (plant : PlantTree) (old new : List TableTree) (within : Facts → Bool) where
+module _ (network : PlantTree) (old new : List TableTree) (within : Facts → Bool) where
   -- with each packet that comes to a stage, of which that is assumed, they do the same there
   abbrev pub AllSame : Type 0
-  AllSame = (stage : HookStage) (f : Facts) → Comes within plant stage f → SameAt plant old new stage f
+  AllSame = (stage : HookStage) (f : Facts) → Comes within network stage f → SameAt network old new stage f
 
   -- with some such packet they don't
   pub record SomeDiffers : Type 0 where
     pub stage : HookStage
     pub facts : Facts
-    pub comes : Comes within plant stage facts
+    pub comes : Comes within network stage facts
     pub verdict : HookVerdict
     pub other : HookVerdict
-    pub differs : DiffersAt plant old new stage facts verdict other
+    pub differs : DiffersAt network old new stage facts verdict other
 
   -- it is said that they are the same, in one line, exactly where they are
   pub record Tells (same : Bool) (text : Text) : Type 0 where

@@ -37,9 +37,9 @@ pub fn report_of(
     assumed: Option<&Checked>,
     limit: u32,
 ) -> Result<DiffReport, WalkError>
-    requires same_box { new.now.plant ≡ old.now.plant }
-    requires assumed_box { IfSome assumed (λ filter. filter.now.plant ≡ old.now.plant) }
-    ensures { IfOk result (λ report. Tells old.now.plant old.now.rules new.now.rules
+    requires same_box { new.now.network ≡ old.now.network }
+    requires assumed_box { IfSome assumed (λ filter. filter.now.network ≡ old.now.network) }
+    ensures { IfOk result (λ report. Tells old.now.network old.now.rules new.now.rules
         (assumption assumed.entry) report.same report.text.items) }
 {
     let diff = ruleset_diff(alloc, old, new, assumed, limit)?;

@@ -20,12 +20,12 @@ pub judgement : ((text : List ℕ) → ((tables : List TableTree) × Spells tabl
     → ((text : List ℕ) → ((p : PlantTree) × IsBox text p) ⊎ ((fault : BoxFault) × HasBoxFault text fault))
     → ((tables : List TableTree) (p : PlantTree) → WellFormed tables p ⊎ ((fault : CheckFault) × LeastFault fault tables p))
     → (rules box : List ℕ) → Judgement rules box
-judgement text plant check rules box = elim (text rules) [
+judgement text network check rules box = elim (text rules) [
   | inr h ↦ inr (Rules (Text h.0), tt, h.1)
-  | inl s ↦ elim (plant box) [
+  | inl s ↦ elim (network box) [
     | inr h ↦ inr (Box h.0, tt, (s.0, s.1, h.1))
     | inl p ↦
-        let texts : Spelled rules box = record { tables = s.0; spelled = s.1; plant = p.0; read = p.1 } in
+        let texts : Spelled rules box = record { tables = s.0; spelled = s.1; network = p.0; read = p.1 } in
         elim (check s.0 p.0) [
           | inr found ↦ inr (Rules (Check found.0), tt, (texts, found.1))
           | inl well ↦

@@ -9,7 +9,7 @@ OneEntry = (setup : Setup) (history : List Entry) (r : Recorded) (e other : Entr
     → Next setup history r other → e ≡ other
 
 abbrev pub SomeEntry : Type 0
-SomeEntry = (setup : Setup) (history : List Entry) (r : Recorded) → WellFormed setup.rules setup.plant → (e : Entry)
+SomeEntry = (setup : Setup) (history : List Entry) (r : Recorded) → WellFormed setup.rules setup.network → (e : Entry)
     × Next setup history r e
 
 -- so records extend a history to at most one history
@@ -21,7 +21,7 @@ one_history one setup before (r ∷ rs) after other (e, n, g) (f, m, h) =
     (one setup before r f e m n) h)
 
 -- and there is one
-pub some_history : SomeEntry → (setup : Setup) → WellFormed setup.rules setup.plant
+pub some_history : SomeEntry → (setup : Setup) → WellFormed setup.rules setup.network
     → (before : List Entry) (rs : List Recorded) → (after : List Entry) × IsHistoryOf setup before rs after
 some_history some setup fine before [] = (before, refl)
 some_history some setup fine before (r ∷ rs) =

@@ -36,7 +36,7 @@ same_setup : Laws → (rules box : List ℕ) (a b : Accepted rules box) → a.se
 same_setup laws rules box a b =
     λ i. record {
       rules = laws.tree rules a.setup.rules b.setup.rules a.spelled b.spelled i;
-      plant = laws.plant box a.setup.plant b.setup.plant a.read b.read i;
+      network = laws.network box a.setup.network b.setup.network a.read b.read i;
     }
 
 pub one_meaning_of : Laws → OneEntry → OneMeaning

@@ -14,10 +14,10 @@ pub refusal_of : (fault : RunFault) → IsOfTexts fault → IsRefusal fault
 refusal_of fault is = grind arith
 
 -- a well-formed ruleset is accepted
-pub accepted_by : (rules box : List ℕ) (texts : Spelled rules box) → WellFormed texts.tables texts.plant
+pub accepted_by : (rules box : List ℕ) (texts : Spelled rules box) → WellFormed texts.tables texts.network
     → Accepted rules box
 accepted_by rules box texts well = record {
-  setup = record { rules = texts.tables; plant = texts.plant };
+  setup = record { rules = texts.tables; network = texts.network };
   spelled = texts.spelled;
   read = texts.read;
   well_formed = well;
@@ -49,18 +49,18 @@ module _ (laws : Laws) (rules box : List ℕ) where
   same_tables : (a b : Spelled rules box) → a.tables ≡ b.tables
   same_tables a b = laws.tree rules a.tables b.tables a.spelled b.spelled
 
-  least_in : (fault : CheckFault) (a b : Spelled rules box) → LeastFault fault a.tables a.plant
-      → LeastFault fault b.tables b.plant
-  least_in fault a b h = rw (← same_tables a b, ← laws.plant box a.plant b.plant a.read b.read) h
+  least_in : (fault : CheckFault) (a b : Spelled rules box) → LeastFault fault a.tables a.network
+      → LeastFault fault b.tables b.network
+  least_in fault a b h = rw (← same_tables a b, ← laws.network box a.network b.network a.read b.read) h
 
   -- texts that are accepted have no fault
   unaccepted : (fault : RunFault) → IsOfTexts fault → Accepted rules box → JudgeRefuses rules box fault → ⊥
   unaccepted (Rules (Text f)) is a h = laws.faultless rules a.setup.rules f a.spelled h
   unaccepted (Rules (Check f)) is a h =
       let texts : Spelled rules box =
-      record { tables = a.setup.rules; spelled = a.spelled; plant = a.setup.plant; read = a.read } in
+      record { tables = a.setup.rules; spelled = a.spelled; network = a.setup.network; read = a.read } in
       a.well_formed f (least_in f h.0 texts h.1).wrong
-  unaccepted (Box f) is a h = laws.sound_box box a.setup.plant f a.read h.2
+  unaccepted (Box f) is a h = laws.sound_box box a.setup.network f a.read h.2
   unaccepted _ is a h = is
 
   -- what is refused means nothing
@@ -81,12 +81,12 @@ module _ (laws : Laws) (rules box : List ℕ) where
   alone capture (Rules (Text f)) (Box g) is is' h k = absurd (laws.faultless rules k.0 f k.1 h)
   alone capture (Rules (Check f)) (Rules (Text g)) is is' h k = absurd (laws.faultless rules h.0.tables g h.0.spelled k)
   alone capture (Rules (Check f)) (Rules (Check g)) is is' h k =
-      ap (λ x. Rules (Check x)) (laws.one_check h.0.tables h.0.plant f g h.1 (least_in g k.0 h.0 k.1))
-  alone capture (Rules (Check f)) (Box g) is is' h k = absurd (laws.sound_box box h.0.plant g h.0.read k.2)
+      ap (λ x. Rules (Check x)) (laws.one_check h.0.tables h.0.network f g h.1 (least_in g k.0 h.0 k.1))
+  alone capture (Rules (Check f)) (Box g) is is' h k = absurd (laws.sound_box box h.0.network g h.0.read k.2)
   alone capture (Rules f) (Capture g) is is' h k = absurd (unaccepted (Rules f) tt k.0 h)
   alone capture (Box f) (Capture g) is is' h k = absurd (unaccepted (Box f) tt k.0 h)
   alone capture (Box f) (Rules (Text g)) is is' h k = absurd (laws.faultless rules h.0 g h.1 k)
-  alone capture (Box f) (Rules (Check g)) is is' h k = absurd (laws.sound_box box k.0.plant f k.0.read h.2)
+  alone capture (Box f) (Rules (Check g)) is is' h k = absurd (laws.sound_box box k.0.network f k.0.read h.2)
   alone capture (Box f) (Box g) is is' h k = ap Box (laws.one_box_fault box f g h.2 k.2)
   alone capture (Capture f) (Rules g) is is' h k = absurd (unaccepted (Rules g) tt h.0 k)
   alone capture (Capture f) (Box g) is is' h k = absurd (unaccepted (Box g) tt h.0 k)

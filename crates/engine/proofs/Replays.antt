@@ -100,7 +100,7 @@ stream_more records last rest = simp (flat_map-append frame records (last ∷ []
 pub record AtRead (replay : Replay) (new : CaptureState) (input : ReplayInput) (result : Result Bool CaptureError)
     (unread after w r : Option (List ℕ)) : Type 0 where
   pub carried : Carried replay input unread w r
-  pub noted : replay.numbers.records ≡ replay.records.count
+  pub noted : replay.report.records ≡ replay.records.count
   pub kept : new.format ≡ replay.records.format
   pub at_end : replay.records.ended ≡ true → IsAtEnd unread
   pub takes : (part : List ℕ) × Consumes unread after part

@@ -116,7 +116,7 @@ module _ {replay : Replay} {input : ReplayInput} {unread w r : Option (List ℕ)
     ends_so torn is = let same : ending_at stop ≡ ending_of torn = grind arith in rw (← same) i.ends
 
     -- all is done
-    pub all_written : (torn : Bool) (count : ℕ) → torn_at stop ≡ Ok torn → count ≡ replay.numbers.records
+    pub all_written : (torn : Bool) (count : ℕ) → torn_at stop ≡ Ok torn → count ≡ replay.report.records
         → Meaning input.rules input.box input.capture input.trace count torn (capture_text i.history)
         (report_text input.accepted.setup input.trace i.history torn)
     all_written torn count is counted =

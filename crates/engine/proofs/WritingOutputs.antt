@@ -16,7 +16,7 @@ use Rattle.history.specs.declared.entry.Entry as lent
 -- ---- the outputs of a history
 
 abbrev pub replay_of : EngineState → ReportState → Replay → SinkState → Replay
-replay_of engine numbers replay sink = record replay { engine = engine; numbers = numbers; sink = sink }
+replay_of engine report replay sink = record replay { engine = engine; report = report; sink = sink }
 
 -- what was written before and now
 pub lines_all : (a b c : Option (List ℕ)) (lines text : List ℕ) → Appends a b lines → AppendsRest b c lines text
@@ -147,7 +147,7 @@ module _ {replay : Replay} {start : ReplayStart} {history : List Entry} {w r : O
     lines_so_far : AppendsPrefix start.report r (entry_lines start.setup.rules start.trace history)
     lines_so_far = (
       p.lines,
-      flat_map (note_line start.setup.rules) replay.numbers.notes,
+      flat_map (note_line start.setup.rules) replay.report.notes,
       sym p.reports.rest,
       p.appends_report,
     )
@@ -155,10 +155,10 @@ module _ {replay : Replay} {start : ReplayStart} {history : List Entry} {w r : O
     -- facts of a report under these rules
     drained : (P : List TableTree → Bool → List Entry → List ℕ → Type 0) (rules : List TableTree)
         → rules ≡ replay.engine.setup.rules
-        → ((trace : Bool) (history : List Entry) (lines : List ℕ) → IsReportOf replay.numbers rules trace history lines
+        → ((trace : Bool) (history : List Entry) (lines : List ℕ) → IsReportOf replay.report rules trace history lines
         → P rules trace history lines) → P start.setup.rules start.trace history p.lines
     drained P rules e drains =
-        subst (λ (rs : List TableTree). IsReportOf replay.numbers rs start.trace history p.lines
+        subst (λ (rs : List TableTree). IsReportOf replay.report rs start.trace history p.lines
         → P rs start.trace history p.lines) (e ∙ ap (λ (s : Setup). s.rules) p.same) (drains start.trace history p.lines) p.reports
 
     -- all that is buffered was sent
@@ -181,7 +181,7 @@ module _ {replay : Replay} {start : ReplayStart} {history : List Entry} {w r : O
     -- the report's did
     pub part_undrained : (rules : List TableTree) (w' r' : Option (List ℕ)) → rules ≡ replay.engine.setup.rules
         → Appends w w' replay.sink.buffered
-        → ((trace : Bool) (history : List Entry) (lines : List ℕ) → IsReportOf replay.numbers rules trace history lines
+        → ((trace : Bool) (history : List Entry) (lines : List ℕ) → IsReportOf replay.report rules trace history lines
         → AppendsRestPrefix r r' lines (entry_lines rules trace history)) → PrefixWritten start history w' r'
     part_undrained rules w' r' e sent drains =
         let lines = lines_part start.report r r' p.lines (entry_lines start.setup.rules start.trace history) p.appends_report
@@ -193,16 +193,16 @@ module _ {replay : Replay} {start : ReplayStart} {history : List Entry} {w r : O
         }
 
     -- neither did
-    pub all_drained : (rules : List TableTree) (numbers : ReportState) (sink : SinkState) (w' r' : Option (List ℕ))
+    pub all_drained : (rules : List TableTree) (report : ReportState) (sink : SinkState) (w' r' : Option (List ℕ))
         → rules ≡ replay.engine.setup.rules → Appends w w' replay.sink.buffered → sink.buffered ≡ []
-        → ((trace : Bool) (history : List Entry) (lines : List ℕ) → IsReportOf replay.numbers rules trace history lines
+        → ((trace : Bool) (history : List Entry) (lines : List ℕ) → IsReportOf replay.report rules trace history lines
         → AppendsRest r r' lines (entry_lines rules trace history)
-        × IsReportOf numbers rules trace history (entry_lines rules trace history))
-        → ReplayRepresents (replay_of replay.engine numbers replay sink) start history w' r'
+        × IsReportOf report rules trace history (entry_lines rules trace history))
+        → ReplayRepresents (replay_of replay.engine report replay sink) start history w' r'
         × AllWritten start history w' r'
-    all_drained rules numbers sink w' r' e sent empty drains =
+    all_drained rules report sink w' r' e sent empty drains =
         let now = drained (λ rules trace history lines. AppendsRest r r' lines (entry_lines rules trace history)
-        × IsReportOf numbers rules trace history (entry_lines rules trace history)) rules e drains in
+        × IsReportOf report rules trace history (entry_lines rules trace history)) rules e drains in
         let lines : Appends start.report r' (entry_lines start.setup.rules start.trace history) =
         lines_all start.report r r' p.lines (entry_lines start.setup.rules start.trace history) p.appends_report now.0
         in (
@@ -229,7 +229,7 @@ module _ {replay : Replay} {start : ReplayStart} {history : List Entry} {w r : O
     pub closed : {live : ℕ} (torn : Bool) {rules : List TableTree} {Q : List ℕ → List ℕ → Type 0} {P : List ℕ → Type 0}
         → ((lines text : List ℕ) → Appends start.report r lines → Q lines text → P text) → rules ≡ replay.engine.setup.rules
         → live ≡ length (live_in replay.engine.setup history)
-        → ((trace : Bool) (history : List Entry) (lines : List ℕ) → IsReportOf replay.numbers rules trace history lines
+        → ((trace : Bool) (history : List Entry) (lines : List ℕ) → IsReportOf replay.report rules trace history lines
         → Q lines (entry_lines rules trace history ++ closing_lines rules history live torn))
         → P (report_text start.setup start.trace history torn)
     closed {live} torn {rules} {Q} {P} joins e lives says = subst (λ (n : ℕ). P (entry_lines start.setup.rules start.trace history
@@ -240,10 +240,10 @@ module _ {replay : Replay} {start : ReplayStart} {history : List Entry} {w r : O
     -- ---- the next record
 
     -- with its next record and its notes reserved it represents the same history
-    pub roomier : (engine : EngineState) (ready : Bool) (numbers : ReportState)
-        → engine ≡ record replay.engine { ready = ready } → numbers ≡ record replay.numbers { room = numbers.room }
-        → ReplayRepresents (replay_of engine numbers replay replay.sink) start history w r
-    roomier engine ready numbers is_engine is =
+    pub roomier : (engine : EngineState) (ready : Bool) (report : ReportState)
+        → engine ≡ record replay.engine { ready = ready } → report ≡ record replay.report { room = report.room }
+        → ReplayRepresents (replay_of engine report replay replay.sink) start history w r
+    roomier engine ready report is_engine is =
         record {
           same = ap (λ (e : EngineState). e.setup) is_engine ∙ p.same;
           represents = readied replay.engine engine ready history is_engine p.represents;
@@ -302,14 +302,14 @@ module _ {replay : Replay} {start : ReplayStart} {history : List Entry} {w r : O
               };
             }
 
-        module _ {numbers : ReportState} {told : lent.Entry} (same : engine.setup ≡ replay.engine.setup)
+        module _ {report : ReportState} {told : lent.Entry} (same : engine.setup ≡ replay.engine.setup)
             (newest : (history : List Entry) → Represents engine history → IsNewest (Some told) history)
-            (noted : Noted replay.numbers numbers told)
+            (noted : Noted replay.report report told)
           where
             -- it was processed and noted, and its packet, if it sends one, is written or buffered
             pub took : (xs : List Sent) (sink : SinkState) (w' : Option (List ℕ)) → xs ≡ sends_of engine.newest
                 → AppendsBuffered replay.sink.buffered w w' sink.buffered (flat_map sll2_record xs)
-                → TakesRecord (replay_of engine numbers replay sink) start history taken w' r
+                → TakesRecord (replay_of engine report replay sink) start history taken w' r
             took xs sink w' is gets =
                 record {
                   entry = t.0;

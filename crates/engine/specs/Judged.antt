@@ -11,7 +11,7 @@ use Rattle.engine.specs.Refusals.{IsFaulty, RefusesBox, Spelled}
 -- chains and rules, saturating at 64 bits
 pub record Judged (rules box : List ℕ) (counts : Counts) : Type 0 where
   pub texts : Spelled rules box
-  pub well_formed : WellFormed texts.tables texts.plant
+  pub well_formed : WellFormed texts.tables texts.network
   pub all_tables : counts.tables ≡ length texts.tables
   pub all_chains : counts.chains ≡ min (chain_count texts.tables) (2 ^ 64 - 1)
   pub all_rules : counts.rules ≡ min (rule_count texts.tables) (2 ^ 64 - 1)

@@ -14,8 +14,8 @@ use Rattle.rule_check.specs.WellFormed.{WellFormed}
 pub record Accepted (rules box : List ℕ) : Type 0 where
   pub setup : Setup
   pub spelled : Spells setup.rules rules
-  pub read : IsBox box setup.plant
-  pub well_formed : WellFormed setup.rules setup.plant
+  pub read : IsBox box setup.network
+  pub well_formed : WellFormed setup.rules setup.network
 
 abbrev pub ending_of : Bool → Ending
 ending_of true = Torn

@@ -18,14 +18,14 @@ use Rattle.engine.specs.Meaning.{Accepted}
 pub record Spelled (rules box : List ℕ) : Type 0 where
   pub tables : List TableTree
   pub spelled : Spells tables rules
-  pub plant : PlantTree
-  pub read : IsBox box plant
+  pub network : PlantTree
+  pub read : IsBox box network
 
 -- the ruleset is refused for the fault of its text; or, where both texts are accepted, for its least fault
 -- on the box
 abbrev pub IsFaulty : List ℕ → List ℕ → RulesFault → Type 0
 IsFaulty rules box (Text fault) = HasTextFault rules fault
-IsFaulty rules box (Check fault) = (texts : Spelled rules box) × LeastFault fault texts.tables texts.plant
+IsFaulty rules box (Check fault) = (texts : Spelled rules box) × LeastFault fault texts.tables texts.network
 
 -- the box file is refused; the rules' text is accepted
 abbrev pub RefusesBox : List ℕ → List ℕ → BoxFault → Type 0

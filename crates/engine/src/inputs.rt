@@ -10,11 +10,11 @@ use rule_check::{Checked, check};
 use std::alloc::Global;
 
 /// Reads both texts and checks the ruleset on the box.
-pub(crate) fn checked(alloc: Global, rules: &[u8], plant: &[u8]) -> Result<Checked, RunFault>
-    ensures fine { IfOk result (λ checked. IsChecked rules.now plant.now checked) }
-    ensures refused { IfErr result (λ fault. JudgeRefuses rules.now plant.now fault) }
+pub(crate) fn checked(alloc: Global, rules: &[u8], network: &[u8]) -> Result<Checked, RunFault>
+    ensures fine { IfOk result (λ checked. IsChecked rules.now network.now checked) }
+    ensures refused { IfErr result (λ fault. JudgeRefuses rules.now network.now fault) }
 {
     let ruleset = parse(alloc, rules)?;
-    let plant = Plant::read(alloc, plant)?;
-    Ok(check(alloc, ruleset, plant)?)
+    let network = Plant::read(alloc, network)?;
+    Ok(check(alloc, ruleset, network)?)
 }

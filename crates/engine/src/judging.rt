@@ -16,16 +16,16 @@ pub struct Counts {
     pub rules: usize,
 }
 
-/// Checks a ruleset on a box. `rules` is the text of an nft(8) ruleset, `plant` that of a box file.
+/// Checks a ruleset on a box. `rules` is the text of an nft(8) ruleset, `network` that of a box file.
 ///
 /// # Errors
 /// The first refusal, of the rules' text, the box file, and the ruleset on the box (its least
 /// fault); or `Memory` after a failed allocation.
-pub fn judge(alloc: Global, rules: &[u8], plant: &[u8]) -> Result<Counts, RunFault>
-    ensures accepted { IfOk result (λ counts. Judged rules.now plant.now counts) }
-    ensures refused { IfErr result (λ fault. JudgeRefuses rules.now plant.now fault) }
+pub fn judge(alloc: Global, rules: &[u8], network: &[u8]) -> Result<Counts, RunFault>
+    ensures accepted { IfOk result (λ counts. Judged rules.now network.now counts) }
+    ensures refused { IfErr result (λ fault. JudgeRefuses rules.now network.now fault) }
 {
-    let checked = checked(alloc, rules, plant)?;
+    let checked = checked(alloc, rules, network)?;
     let tree = checked.tree();
     Ok(Counts {
         tables: tree.tables.len(),

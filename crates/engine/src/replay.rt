@@ -30,7 +30,7 @@ const MOST_PENDING: usize = 4096;
 /// A run in progress.
 pub(crate) struct Replay {
     pub engine: Engine<AgedTracker>,
-    pub numbers: Report,
+    pub report: Report,
     pub records: Capture,
     sink: Sink,
 }
@@ -40,7 +40,7 @@ impl Drop for Replay {
     fn drop(self) {
         let Replay {
             engine: _,
-            numbers: _,
+            report: _,
             records: _,
             sink: _,
         } = self;
@@ -83,7 +83,7 @@ pub(crate) fn replay_capture<R: Read, W: Write, W2: Write>(
     let stop = replay.replay_records(capture, sent, report)?;
     let torn = replay.finish(stop, sent, report)?;
     Ok(Summary {
-        records: replay.numbers.records(),
+        records: replay.report.records(),
         torn,
     })
 }
@@ -99,7 +99,7 @@ impl Replay {
     ) -> Result<Self, SinkError>
         requires represents { Represents engine [] }
         ensures same { IfOk result (λ replay. (replay.engine ≡ engine) × (replay.records ≡ records)
-            × (replay.numbers.records ≡ 0) × (replay.numbers.notes ≡ [])) }
+            × (replay.report.records ≡ 0) × (replay.report.notes ≡ [])) }
         ensures begun { IfOk result (λ replay. IsBegun replay engine.setup trace
             (W.contents sent.old.inner) (W.contents sent.new.inner)) }
         ensures part { OnErr result (AppendsPrefix (W.contents sent.old.inner)
@@ -109,13 +109,13 @@ impl Replay {
             → sent.new.failures ≡ one_failure sent.old.failures }
         ensures memory { IsErrOf result SinkError.Memory → sent.new ≡ sent.old }
     {
-        let Ok(numbers) = Report::new(alloc, engine.rules(), trace) else {
+        let Ok(report) = Report::new(alloc, engine.rules(), trace) else {
             return Err(SinkError::Memory);
         };
         let sink = Sink::open(alloc, sent)?;
         Ok(Replay {
             engine,
-            numbers,
+            report,
             records,
             sink,
         })
@@ -134,8 +134,8 @@ impl Replay {
         report: &mut Counted<W2>,
     ) -> Result<Option<CaptureFault>, RunFault>
         requires opened { IsOpened self.old.records (R.remaining capture.old.inner) }
-        requires none { self.old.numbers.records ≡ 0 }
-        requires empty { self.old.numbers.notes ≡ [] }
+        requires none { self.old.report.records ≡ 0 }
+        requires empty { self.old.report.notes ≡ [] }
         requires represents { Represents self.old.engine [] }
         ensures replayed { ReplaysAll self.old self.new result
             (devices R.remaining W.contents W2.contents capture.old sent.old report.old)
@@ -150,7 +150,7 @@ impl Replay {
             (devices R.remaining W.contents W2.contents capture.old sent.old report.old)
             (devices R.remaining W.contents W2.contents capture.new sent.new report.new) }
         // However long nothing is read, few notes are pending.
-        ensures pending { length self.new.numbers.notes ≤ MOST_PENDING + MOST_NOTES }
+        ensures pending { length self.new.report.notes ≤ MOST_PENDING + MOST_NOTES }
     {
         'each: loop {
             self.flush_before_read(sent, report)?;
@@ -186,18 +186,18 @@ impl Replay {
             (writers W.contents W2.contents sent.old report.old)
             (writers W.contents W2.contents sent.new report.new)) }
         ensures same { (self.new.engine ≡ self.old.engine) × (self.new.records ≡ self.old.records)
-            × (self.new.numbers.records ≡ self.old.numbers.records) }
-        ensures pending { MatchResult result (λ _. length self.new.numbers.notes ≤ MOST_PENDING)
-            (λ _. length self.new.numbers.notes ≤ length self.old.numbers.notes) }
+            × (self.new.report.records ≡ self.old.report.records) }
+        ensures pending { MatchResult result (λ _. length self.new.report.notes ≤ MOST_PENDING)
+            (λ _. length self.new.report.notes ≤ length self.old.report.notes) }
         ensures failures { CountsFailedWrite result
             (writers W.contents W2.contents sent.old report.old)
             (writers W.contents W2.contents sent.new report.new) }
     {
-        if self.records.is_ready() && self.numbers.pending() <= MOST_PENDING {
+        if self.records.is_ready() && self.report.pending() <= MOST_PENDING {
             return Ok(());
         }
         self.sink.send(sent)?;
-        self.numbers.drain(self.engine.rules(), report)?;
+        self.report.drain(self.engine.rules(), report)?;
         Ok(())
     }
 
@@ -213,14 +213,14 @@ impl Replay {
             (λ _. WritesPrefix self.old (writers W.contents W2.contents sent.old report.old)
             (writers W.contents W2.contents sent.new report.new)) }
         ensures flushed { OnOk result (AllFlushed sent.new report.new) }
-        ensures records { self.new.numbers.records ≡ self.old.numbers.records }
-        ensures pending { length self.new.numbers.notes ≤ length self.old.numbers.notes }
+        ensures records { self.new.report.records ≡ self.old.report.records }
+        ensures pending { length self.new.report.notes ≤ length self.old.report.notes }
         ensures failures { CountsFailedWrite result
             (writers W.contents W2.contents sent.old report.old)
             (writers W.contents W2.contents sent.new report.new) }
     {
         self.sink.finish(sent)?;
-        self.numbers.drain(self.engine.rules(), report)?;
+        self.report.drain(self.engine.rules(), report)?;
         match report.flush() {
             Ok(()) => Ok(()),
             Err(_) => Err(DeviceFailed),
@@ -232,7 +232,7 @@ impl Replay {
     pub(crate) fn take<W: Write>(&mut self, sent: &mut Counted<W>) -> Result<bool, DeviceFailed>
         requires read { self.old.records.last ≢ None }
         requires few { (self.old.engine.records < 4294967296)
-            × (self.old.numbers.records < 4294967296) }
+            × (self.old.report.records < 4294967296) }
         requires represents { RepresentsSome self.old.engine }
         ensures taken { result ≡ Ok true → TakesLast self.old self.new
             (W.contents sent.old.inner) (W.contents sent.new.inner) }
@@ -244,10 +244,10 @@ impl Replay {
         ensures stepped { result ≡ Ok true → StepsLast self.old self.new }
         ensures setup { self.new.engine.setup ≡ self.old.engine.setup }
         ensures counted { result ≡ Ok true → (self.new.engine.records ≡ self.old.engine.records + 1)
-            × (self.new.numbers.records ≡ self.old.numbers.records + 1) }
+            × (self.new.report.records ≡ self.old.report.records + 1) }
         ensures same { self.new.records ≡ self.old.records }
-        ensures pending { length self.new.numbers.notes
-            ≤ length self.old.numbers.notes + MOST_NOTES }
+        ensures pending { length self.new.report.notes
+            ≤ length self.old.report.notes + MOST_NOTES }
         ensures no_failure { OnOk result (sent.new.failures ≡ sent.old.failures) }
         ensures device { OnErr result (sent.new.failures ≡ one_failure sent.old.failures) }
     {
@@ -258,13 +258,13 @@ impl Replay {
         let Ok(()) = self.engine.reserve() else {
             return Ok(false);
         };
-        let Ok(()) = self.numbers.reserve() else {
+        let Ok(()) = self.report.reserve() else {
             return Ok(false);
         };
         let record = self.records.record().unwrap();
         self.engine.process(&record);
         let Processed { entry, leaving } = self.engine.newest();
-        self.numbers.note(&entry).unwrap();
+        self.report.note(&entry).unwrap();
         if let Some(leaving) = leaving {
             self.sink.put(sent, &leaving)?;
         }
@@ -291,7 +291,7 @@ impl Replay {
             (writers W.contents W2.contents sent.new report.new) }
         ensures flushed { result ≢ Err RunFault.Device → AllFlushed sent.new report.new }
         ensures refused { IfErr result (λ fault. IsOfRecord fault → AllFlushed sent.new report.new) }
-        ensures records { self.new.numbers.records ≡ self.old.numbers.records }
+        ensures records { self.new.report.records ≡ self.old.report.records }
         ensures failures { CountsFault result
             (writers W.contents W2.contents sent.old report.old)
             (writers W.contents W2.contents sent.new report.new) }
@@ -300,7 +300,7 @@ impl Replay {
             Ok(torn) => {
                 self.sink.finish(sent)?;
                 let live = self.engine.live() as u64;
-                self.numbers.lines(self.engine.rules(), live, torn, report)?;
+                self.report.lines(self.engine.rules(), live, torn, report)?;
                 Ok(torn)
             }
             Err(fault) => {

@@ -62,20 +62,20 @@ impl Rerun {
         alloc: Global,
         hasher: RandomState,
         rules: &[u8],
-        plant: &[u8],
+        network: &[u8],
         capture: &mut Counted<R>,
         lost: &mut Counted<W>,
     ) -> Result<Rerun, RunFault>
-        ensures begun { IfOk result (λ rerun. (accepted : Accepted rules.now plant.now)
+        ensures begun { IfOk result (λ rerun. (accepted : Accepted rules.now network.now)
             × (rerun.engine.setup ≡ accepted.setup) × StandsBehind rerun []
             × (rerun.is_over ≡ false)) }
         ensures refusals { IfErr result (λ fault.
-            Refuses rules.now plant.now (R.remaining capture.old.inner) fault) }
+            Refuses rules.now network.now (R.remaining capture.old.inner) fault) }
         ensures within { IfErr result (λ fault. IsOfRecord fault → ⊥) }
         ensures failures { CountsOne result capture.old.failures capture.new.failures
             lost.old.failures lost.new.failures }
     {
-        let checked = checked(alloc, rules, plant)?;
+        let checked = checked(alloc, rules, network)?;
         let records = Capture::open(alloc, capture)?;
         let engine = Engine::with_hasher(alloc, hasher, checked)?;
         let replay = Replay::new(alloc, engine, records, false, lost)?;
@@ -117,7 +117,7 @@ impl Rerun {
         if !self.replay.take(lost)? {
             return Err(RunFault::Memory);
         }
-        self.replay.numbers.drain(self.replay.engine.rules(), lost)?;
+        self.replay.report.drain(self.replay.engine.rules(), lost)?;
         self.fullest
             .note(self.replay.engine.live(), self.replay.engine.records());
         self.is_over = false;

@@ -28,7 +28,7 @@ pub struct Summary {
 /// Runs the packets of a capture through a ruleset, as a forwarding box with these interfaces and
 /// routes would; writes the forwarded packets to `sent` as a capture, and a report to `report`.
 ///
-/// `rules` is the text of an nft(8) ruleset, `plant` that of a box file. With `trace` the report
+/// `rules` is the text of an nft(8) ruleset, `network` that of a box file. With `trace` the report
 /// has each verdict and each outcome. The keys of `hasher` seed the tables of connections and
 /// mappings, against captures made to collide; nothing that is written depends on them.
 ///
@@ -50,7 +50,7 @@ pub fn run<R: Read, W: Write, W2: Write>(
     alloc: Global,
     hasher: RandomState,
     rules: &[u8],
-    plant: &[u8],
+    network: &[u8],
     capture: &mut Counted<R>,
     sent: &mut Counted<W>,
     report: &mut Counted<W2>,
@@ -58,7 +58,7 @@ pub fn run<R: Read, W: Write, W2: Write>(
 ) -> Result<Summary, RunFault>
     // The written bytes are the meaning of the inputs, which is unique.
     ensures meaning { IfOk result (λ summary. IfSome (R.remaining capture.old.inner) (λ input.
-        WroteOutputs rules.now plant.now input trace summary.records summary.torn
+        WroteOutputs rules.now network.now input trace summary.records summary.torn
         (W.contents sent.old.inner) (W.contents sent.new.inner) (W2.contents report.old.inner)
         (W2.contents report.new.inner))) }
     // The reader has ended.
@@ -70,7 +70,7 @@ pub fn run<R: Read, W: Write, W2: Write>(
         → ((sent.new ≡ sent.old) × (report.new ≡ report.old)) ⊎ AllFlushed sent.new report.new }
     // A refusal is the one that the inputs have.
     ensures refusals { IfErr result (λ fault.
-        Refuses rules.now plant.now (R.remaining capture.old.inner) fault) }
+        Refuses rules.now network.now (R.remaining capture.old.inner) fault) }
     // Where a text is refused, nothing is read of the capture.
     ensures unread { IfErr result (λ fault. IsOfTexts fault → capture.new ≡ capture.old) }
     // Before the capture's header is accepted nothing is written.
@@ -79,7 +79,7 @@ pub fn run<R: Read, W: Write, W2: Write>(
     // After an error each writer holds a prefix of its text for the records read, and the whole of
     // it unless a write failed; the reader is at most one buffer ahead.
     ensures left { IfErr result (λ fault. IfSome (R.remaining capture.old.inner) (λ input.
-        LeftDevices rules.now plant.now input trace
+        LeftDevices rules.now network.now input trace
         (devices R.remaining W.contents W2.contents capture.old sent.old report.old)
         (devices R.remaining W.contents W2.contents capture.new sent.new report.new) fault)) }
     // `Device` is exactly one failed call; otherwise none failed.
@@ -87,7 +87,7 @@ pub fn run<R: Read, W: Write, W2: Write>(
         (devices R.remaining W.contents W2.contents capture.old sent.old report.old)
         (devices R.remaining W.contents W2.contents capture.new sent.new report.new) }
 {
-    let checked = checked(alloc, rules, plant)?;
+    let checked = checked(alloc, rules, network)?;
     let records = Capture::open(alloc, capture)?;
     one_meaning();
     let engine = Engine::with_hasher(alloc, hasher, checked)?;

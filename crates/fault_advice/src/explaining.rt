@@ -89,8 +89,8 @@ impl<'a> Explaining<'a> {
 
     /// Writes where a fault of a ruleset as a whole is, what is around it, and what to do.
     fn put_place_in_rules(self, lines: &mut String) -> Result<(), AllocError> {
-        let (alloc, text, plant) = (self.alloc, self.sources.rules, self.sources.plant);
-        let Some(CheckPlace { span, word }) = check_place(alloc, text, plant)? else {
+        let (alloc, text, network) = (self.alloc, self.sources.rules, self.sources.network);
+        let Some(CheckPlace { span, word }) = check_place(alloc, text, network)? else {
             return Ok(());
         };
         self.show(word.start, lines)?;
@@ -103,16 +103,16 @@ impl<'a> Explaining<'a> {
             tokens: &span.tokens,
             tree: &span.tree,
         };
-        put_advice_on_rules(alloc, source, plant, span.found, word.start, lines)
+        put_advice_on_rules(alloc, source, network, span.found, word.start, lines)
     }
 
     /// Writes where a fault of a box file is, and what to do.
     fn put_place_in_box(self, fault: BoxFault, lines: &mut String) -> Result<(), AllocError> {
-        let (alloc, text) = (self.alloc, self.sources.plant);
+        let (alloc, text) = (self.alloc, self.sources.network);
         let Some(line) = faulty_line(alloc, text, fault)? else {
             return Ok(());
         };
-        show(alloc, lines, self.sources.paths.plant, text, line.start)?;
+        show(alloc, lines, self.sources.paths.network, text, line.start)?;
         put_advice_on_box(alloc, text, fault, line, lines)
     }
 }

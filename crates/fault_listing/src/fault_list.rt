@@ -40,9 +40,9 @@ struct FoundFault {
 pub fn all_faults(alloc: Global, sources: Sources<'_>) -> Result<String, AllocError> {
     let mut lines = String::new(alloc);
     let mut rules = FaultList::new(alloc, sources.paths.rules, sources.rules);
-    rules.put_rules(sources.plant, &mut lines)?;
-    let mut plant = FaultList::new(alloc, sources.paths.plant, sources.plant);
-    plant.put_box(&mut lines)?;
+    rules.put_rules(sources.network, &mut lines)?;
+    let mut network = FaultList::new(alloc, sources.paths.network, sources.network);
+    network.put_box(&mut lines)?;
     Ok(lines)
 }
 
@@ -108,14 +108,14 @@ impl<'a> FaultList<'a> {
 
     /// Writes the faults of a ruleset. What has one is taken out, until the rest can be read and is
     /// accepted, or can't be judged.
-    fn put_rules(&mut self, plant: &[u8], lines: &mut String) -> Result<(), AllocError> {
-        let plant = read_box(self.alloc, plant)?;
-        self.is_partial = plant.is_none();
+    fn put_rules(&mut self, network: &[u8], lines: &mut String) -> Result<(), AllocError> {
+        let network = read_box(self.alloc, network)?;
+        self.is_partial = network.is_none();
         let mut left = self.text.to_vec(self.alloc)?;
         for _ in 0..MOST {
             let fault = match lex(self.alloc, &left) {
                 Ok(tokens) => {
-                    self.list_rules(&tokens, plant.as_ref())?;
+                    self.list_rules(&tokens, network.as_ref())?;
                     return self.write_to(lines, &tokens);
                 }
                 Err(LexError::Refused(fault)) => fault,
@@ -151,14 +151,14 @@ impl<'a> FaultList<'a> {
     fn list_rules(
         &mut self,
         tokens: &[Token<'_>],
-        plant: Option<&Plant>,
+        network: Option<&Plant>,
     ) -> Result<(), AllocError> {
         let mut left = tokens.to_vec(self.alloc)?;
         for round in 0..tokens.len() {
             if !self.is_open() {
                 break;
             }
-            let gone = self.list_tokens(&left, plant, round > 0)?;
+            let gone = self.list_tokens(&left, network, round > 0)?;
             if gone.is_empty() {
                 break;
             }
@@ -172,14 +172,14 @@ impl<'a> FaultList<'a> {
     fn list_tokens(
         &mut self,
         tokens: &[Token<'_>],
-        plant: Option<&Plant>,
+        network: Option<&Plant>,
         is_again: bool,
     ) -> Result<Vec<Span>, AllocError> {
         let Some(tree) = ruleset(self.alloc, tokens)? else {
             return self.list_unread(tokens, is_again);
         };
-        match plant {
-            Some(plant) => self.list_refused(tokens, &tree, plant),
+        match network {
+            Some(network) => self.list_refused(tokens, &tree, network),
             None => Ok(Vec::new(self.alloc)),
         }
     }
@@ -263,16 +263,16 @@ impl<'a> FaultList<'a> {
         &mut self,
         tokens: &[Token<'_>],
         tree: &Ruleset,
-        plant: &Plant,
+        network: &Plant,
     ) -> Result<Vec<Span>, AllocError> {
         let mut gone = Vec::new(self.alloc);
-        for found in &faulty_nodes(self.alloc, tree, plant)? {
+        for found in &faulty_nodes(self.alloc, tree, network)? {
             if self.is_open()
                 && !self.is_listed(found.fault)
                 && let Some(range) = node_range(self.alloc, tokens, found.node)?
             {
                 let its_tokens = tokens.get(range.first..range.end).unwrap_or(&[]);
-                let word = fault_word(self.alloc, tree, plant, *found, its_tokens)?;
+                let word = fault_word(self.alloc, tree, network, *found, its_tokens)?;
                 self.add_refused(found.fault, word)?;
                 gone.push(self.removed_for(found.node, tokens, range, word)?)?;
             }

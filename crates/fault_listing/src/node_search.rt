@@ -13,7 +13,7 @@ use std::alloc::{AllocError, Global};
 struct NodeSearch<'a> {
     alloc: Global,
     tree: &'a Ruleset,
-    plant: &'a Plant,
+    network: &'a Plant,
     found: Vec<FaultyNode>,
 }
 
@@ -26,19 +26,19 @@ struct NodeSearch<'a> {
 pub fn faulty_nodes<'a>(
     alloc: Global,
     tree: &'a Ruleset,
-    plant: &'a Plant,
+    network: &'a Plant,
 ) -> Result<Vec<FaultyNode>, AllocError> {
     let mut search = NodeSearch {
         alloc,
         tree,
-        plant,
+        network,
         found: Vec::new(alloc),
     };
-    if least_fault(alloc, tree, plant)?.is_none() {
+    if least_fault(alloc, tree, network)?.is_none() {
         return Ok(search.found);
     }
     let declared = ruleset_between(alloc, tree, 0, 0)?;
-    match first_fault(alloc, &declared, plant, 0)? {
+    match first_fault(alloc, &declared, network, 0)? {
         Some(found) => search.found.push(found)?,
         None => {
             let _ = search.search(0, ruleset_parts(tree))?;
@@ -74,7 +74,7 @@ impl<'a> NodeSearch<'a> {
     /// Whether the parts of a range are refused together.
     fn is_refused(&self, start: usize, end: usize) -> Result<bool, AllocError> {
         let parts = ruleset_between(self.alloc, self.tree, start, end)?;
-        Ok(least_fault(self.alloc, &parts, self.plant)?.is_some())
+        Ok(least_fault(self.alloc, &parts, self.network)?.is_some())
     }
 
     /// Adds the part with which those of a range get their fault. Where it is a rule or a statement
@@ -84,7 +84,7 @@ impl<'a> NodeSearch<'a> {
         let declared = declarations(&parts);
         let total = declared.saturating_add(ruleset_parts(&parts));
         let likely = total.saturating_sub(1);
-        let Some(found) = first_fault(self.alloc, &parts, self.plant, likely)? else {
+        let Some(found) = first_fault(self.alloc, &parts, self.network, likely)? else {
             return Ok(());
         };
         let part = end.saturating_sub(total.saturating_sub(found.position));

@@ -34,7 +34,7 @@ impl Fault {
 #[derive(Clone, Copy)]
 pub struct SourcePaths<'a> {
     pub rules: &'a str,
-    pub plant: &'a str,
+    pub network: &'a str,
 }
 
 /// A ruleset and a box file, as they were read.
@@ -42,13 +42,13 @@ pub struct SourcePaths<'a> {
 pub struct Sources<'a> {
     pub paths: SourcePaths<'a>,
     pub rules: &'a [u8],
-    pub plant: &'a [u8],
+    pub network: &'a [u8],
 }
 
 /// A box, where its file is accepted.
 pub fn read_box(alloc: Global, text: &[u8]) -> Result<Option<Plant>, AllocError> {
     match Plant::read(alloc, text) {
-        Ok(plant) => Ok(Some(plant)),
+        Ok(network) => Ok(Some(network)),
         Err(BoxError::Refused(_)) => Ok(None),
         Err(BoxError::Memory) => Err(AllocError),
     }

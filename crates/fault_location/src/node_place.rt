@@ -26,17 +26,17 @@ pub struct CheckPlace<'t> {
 pub fn check_place<'t>(
     alloc: Global,
     text: &'t [u8],
-    plant: &[u8],
+    network: &[u8],
 ) -> Result<Option<CheckPlace<'t>>, AllocError> {
-    let Some(plant) = read_box(alloc, plant)? else {
+    let Some(network) = read_box(alloc, network)? else {
         return Ok(None);
     };
-    let Some(span) = fault_span(alloc, text, &plant)? else {
+    let Some(span) = fault_span(alloc, text, &network)? else {
         return Ok(None);
     };
     let (start, end) = (span.start, span.end);
     let own = tokens_within(&span.tokens, Span { start, end });
-    let word = fault_word(alloc, &span.tree, &plant, span.found, own)?;
+    let word = fault_word(alloc, &span.tree, &network, span.found, own)?;
     Ok(Some(CheckPlace { span, word }))
 }
 
@@ -48,7 +48,7 @@ pub fn check_place<'t>(
 pub fn fault_word(
     alloc: Global,
     tree: &Ruleset,
-    plant: &Plant,
+    network: &Plant,
     found: FaultyNode,
     tokens: &[Token<'_>],
 ) -> Result<Span, AllocError> {
@@ -60,7 +60,7 @@ pub fn fault_word(
             None,
         (Node::Statement { .. }, _) => tokens.last(),
         (Node::Element { .. } | Node::AnonymousElement { .. }, _) => if is_of_data(
-            alloc, tree, plant, found,
+            alloc, tree, network, found,
         )? {
             tokens.last()
         } else {
@@ -78,7 +78,7 @@ pub fn fault_word(
 fn is_of_data(
     alloc: Global,
     tree: &Ruleset,
-    plant: &Plant,
+    network: &Plant,
     found: FaultyNode,
 ) -> Result<bool, AllocError> {
     match found.fault {
@@ -97,7 +97,7 @@ fn is_of_data(
             return Ok(false);
         };
         pair.value = data;
-        match least_fault(alloc, &alone, plant)? {
+        match least_fault(alloc, &alone, network)? {
             // The fault, or one before it.
             Some(left) if left as u8 <= found.fault as u8 => {}
             _ => return Ok(true),

@@ -11,16 +11,16 @@ use Rattle.fault_nodes.proofs.Whole.{read_none, read_all}
 use Rattle.fault_nodes.proofs.Faultless.{empty_fine}
 
 -- a ruleset that has a fault has a declaration
-pub some_to_read : (fault : CheckFault) (tables : List TableTree) (plant : PlantTree) → LeastFault fault tables plant
+pub some_to_read : (fault : CheckFault) (tables : List TableTree) (network : PlantTree) → LeastFault fault tables network
     → 0 < declarations tables + ruleset_parts tables
-some_to_read fault [] plant least = absurd (empty_fine plant fault least.wrong)
-some_to_read fault (t ∷ ts) plant least = omega (arith, sum_by-cons table_declarations t ts)
+some_to_read fault [] network least = absurd (empty_fine network fault least.wrong)
+some_to_read fault (t ∷ ts) network least = omega (arith, sum_by-cons table_declarations t ts)
 
-module _ (fault : CheckFault) (tables : List TableTree) (plant : PlantTree) where
-  pub has_at_end : (total : ℕ) → total ≡ declarations tables + ruleset_parts tables → LeastFault fault tables plant
-      → LeastFault fault (read_up_to total tables) plant
+module _ (fault : CheckFault) (tables : List TableTree) (network : PlantTree) where
+  pub has_at_end : (total : ℕ) → total ≡ declarations tables + ruleset_parts tables → LeastFault fault tables network
+      → LeastFault fault (read_up_to total tables) network
   has_at_end total is least = rw (is, read_all tables) least
 
-  pub none_at_start : LeastFault fault (read_up_to 0 tables) plant → ⊥
+  pub none_at_start : LeastFault fault (read_up_to 0 tables) network → ⊥
   none_at_start least =
-      empty_fine plant fault (subst (λ (ts : List TableTree). LeastFault fault ts plant) (read_none tables) least).wrong
+      empty_fine network fault (subst (λ (ts : List TableTree). LeastFault fault ts network) (read_none tables) least).wrong

@@ -103,8 +103,8 @@ position tables (nodes.AnonymousElement table item rule statement element) =
 
 -- With this node the ruleset gets the fault: read up to the node and with it, it has the fault as its least, and
 -- read up to the node and without it, it hasn't.
-pub record CompletesFault (fault : CheckFault) (node : Node) (tables : List TableTree) (plant : PlantTree)
+pub record CompletesFault (fault : CheckFault) (node : Node) (tables : List TableTree) (network : PlantTree)
     : Type 0 where
   pub there : IsNode tables node
-  pub with_it : LeastFault fault (read_up_to (suc (position tables node)) tables) plant
-  pub without_it : LeastFault fault (read_up_to (position tables node) tables) plant → ⊥
+  pub with_it : LeastFault fault (read_up_to (suc (position tables node)) tables) network
+  pub without_it : LeastFault fault (read_up_to (position tables node) tables) network → ⊥

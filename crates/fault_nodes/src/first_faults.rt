@@ -29,25 +29,29 @@ use std::alloc::{AllocError, Global};
 pub fn first_fault(
     alloc: Global,
     tree: &Ruleset,
-    plant: &Plant,
+    network: &Plant,
     likely: usize,
 ) -> Result<Option<FaultyNode>, AllocError>
-    ensures fine { IfOk result (λ o. o ≡ None → WellFormed (tables_of tree.now) plant.now) }
+    ensures fine { IfOk result (λ o. o ≡ None → WellFormed (tables_of tree.now) network.now) }
     ensures fault { IfOk result (λ o. IfSome o (λ found.
-        LeastFault found.fault (tables_of tree.now) plant.now)) }
+        LeastFault found.fault (tables_of tree.now) network.now)) }
     ensures node { IfOk result (λ o. IfSome o (λ found.
-        CompletesFault found.fault found.node (tables_of tree.now) plant.now)) }
+        CompletesFault found.fault found.node (tables_of tree.now) network.now)) }
     ensures position { IfOk result (λ o. IfSome o (λ found.
         found.position ≡ position (tables_of tree.now) found.node)) }
 {
-    let Some(fault) = least_fault(alloc, tree, plant)? else {
+    let Some(fault) = least_fault(alloc, tree, network)? else {
         return Ok(None);
     };
     let total = declarations(tree).saturating_add(ruleset_parts(tree));
     if total == usize::MAX {
         return Err(AllocError);
     }
-    let subject = Subject { tree, plant, fault };
+    let subject = Subject {
+        tree,
+        network,
+        fault,
+    };
     let position = subject.completed_at(alloc, total, likely)?;
     Ok(Some(FaultyNode {
         fault,
@@ -60,7 +64,7 @@ pub fn first_fault(
 #[derive(Clone, Copy)]
 struct Subject<'t> {
     tree: &'t Ruleset,
-    plant: &'t Plant,
+    network: &'t Plant,
     fault: CheckFault,
 }
 
@@ -68,14 +72,14 @@ impl<'t> Subject<'t> {
     /// How much of the ruleset is read before the node with which it gets the fault, of `total`
     /// declarations and parts in all.
     fn completed_at(&self, alloc: Global, total: usize, likely: usize) -> Result<usize, AllocError>
-        requires has { LeastFault self.now.fault (tables_of self.now.tree.now) self.now.plant.now }
+        requires has { LeastFault self.now.fault (tables_of self.now.tree.now) self.now.network.now }
         requires total { total ≡ declarations (tables_of self.now.tree.now)
             + ruleset_parts (tables_of self.now.tree.now) }
         ensures within { IfOk result (λ position. position < total) }
         ensures with_it { IfOk result (λ position. LeastFault self.now.fault
-            (read_up_to (suc position) (tables_of self.now.tree.now)) self.now.plant.now) }
+            (read_up_to (suc position) (tables_of self.now.tree.now)) self.now.network.now) }
         ensures without_it { IfOk result (λ position. LeastFault self.now.fault
-            (read_up_to position (tables_of self.now.tree.now)) self.now.plant.now → ⊥) }
+            (read_up_to position (tables_of self.now.tree.now)) self.now.network.now → ⊥) }
     {
         let mut without = 0usize;
         let mut with = total;
@@ -93,11 +97,11 @@ impl<'t> Subject<'t> {
     /// Whether the ruleset that is read up to `count` has the fault as its least.
     fn has_fault(&self, alloc: Global, count: usize) -> Result<bool, AllocError>
         ensures { IfOk result (λ b. IsTrue b ↔ LeastFault self.now.fault
-            (read_up_to count (tables_of self.now.tree.now)) self.now.plant.now) }
+            (read_up_to count (tables_of self.now.tree.now)) self.now.network.now) }
     {
         least_fault_unique();
         let read = read_up_to(alloc, self.tree, count)?;
-        Ok(match least_fault(alloc, &read, self.plant)? {
+        Ok(match least_fault(alloc, &read, self.network)? {
             Some(found) => is_same(found, self.fault),
             None => false,
         })

@@ -22,11 +22,11 @@ pub record AreBytesOf (tokens : List Token) (r : TokenRange) (start end : ℕ) :
   pub ends : end ≡ last.start + length last.text.now
 
 -- The text is one of a ruleset that gets the fault with this node, and the bytes are those of the node's tokens.
-pub record IsFaultSpan (text : List ℕ) (plant : PlantTree) (span : FaultSpan) : Type 0 where
+pub record IsFaultSpan (text : List ℕ) (network : PlantTree) (span : FaultSpan) : Type 0 where
   pub tokenized : TokenizesTo text (map spelled span.tokens.items)
   pub stand : AllStand text [] span.tokens.items
   pub reads : SpellsRuleset (tables_of span.tree) (terminals span.tokens.items)
-  pub completes : CompletesFault span.found.fault span.found.node (tables_of span.tree) plant
+  pub completes : CompletesFault span.found.fault span.found.node (tables_of span.tree) network
   pub read_before : span.found.position ≡ position (tables_of span.tree) span.found.node
   pub range : TokenRange
   pub stands : NodeStands span.tokens.items (tables_of span.tree) span.found.node range

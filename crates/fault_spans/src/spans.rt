@@ -36,11 +36,11 @@ pub struct FaultSpan<'t> {
 pub fn fault_span<'t>(
     alloc: Global,
     text: &'t [u8],
-    plant: &Plant,
+    network: &Plant,
 ) -> Result<Option<FaultSpan<'t>>, AllocError>
-    ensures found { IfOk result (λ o. IfSome o (IsFaultSpan text.now plant.now)) }
+    ensures found { IfOk result (λ o. IfSome o (IsFaultSpan text.now network.now)) }
     ensures none { (tables : List TableTree) → Spells tables text.now
-        → IfOk result (λ o. o ≡ None → WellFormed tables plant.now) }
+        → IfOk result (λ o. o ≡ None → WellFormed tables network.now) }
 {
     let tokens = match lex(alloc, text) {
         Ok(tokens) => tokens,
@@ -50,8 +50,12 @@ pub fn fault_span<'t>(
     let Some(tree) = ruleset(alloc, &tokens)? else {
         return Ok(None);
     };
-    let likely = Guess { tree: &tree, plant }.position(alloc)?;
-    let Some(found) = first_fault(alloc, &tree, plant, likely)? else {
+    let likely = Guess {
+        tree: &tree,
+        network,
+    }
+    .position(alloc)?;
+    let Some(found) = first_fault(alloc, &tree, network, likely)? else {
         return Ok(None);
     };
     let Some(range) = node_range(alloc, &tokens, found.node)? else {
@@ -78,7 +82,7 @@ pub fn fault_span<'t>(
 #[derive(Clone, Copy)]
 struct Guess<'t> {
     tree: &'t Ruleset,
-    plant: &'t Plant,
+    network: &'t Plant,
 }
 
 impl<'t> Guess<'t> {
@@ -134,6 +138,6 @@ impl<'t> Guess<'t> {
     /// Whether the ruleset has a fault with these parts alone.
     fn has_fault(&self, alloc: Global, from: usize, to: usize) -> Result<bool, AllocError> {
         let some = ruleset_between(alloc, self.tree, from, to)?;
-        Ok(least_fault(alloc, &some, self.plant)?.is_some())
+        Ok(least_fault(alloc, &some, self.network)?.is_some())
     }
 }

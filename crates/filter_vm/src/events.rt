@@ -1,6 +1,7 @@
 //! The events of a record, and the count of statements.
 ghost use Rattle.std.specs.Prelude.{◌≡◌, ◌≤◌, ◌<◌, ◌+◌, ◌-◌, ◌^◌, ◌++◌, ◌∷◌, [], IfOk, vec_capacity, length, min};
 ghost use Rattle.filter_vm.specs.Machine.{EventsAndTicks};
+ghost use Rattle.filter_vm.specs.declared.events.TheConstants.{MOST_EVENTS};
 
 use crate::code::Code;
 use nft_tree::Memory;
@@ -24,7 +25,7 @@ impl Model for Events {
 
     ghost view = { λ e. record { events = e.list.items; ticks = e.ticks } };
 
-    ghost invariant = { λ e. 65536 ≤ vec_capacity e.list };
+    ghost invariant = { λ e. MOST_EVENTS ≤ vec_capacity e.list };
 }
 
 impl Events {
@@ -71,7 +72,7 @@ impl Events {
 
     /// Appends an event.
     pub(crate) fn note(&mut self, event: Event)
-        requires { length self.old.events < 65536 }
+        requires { length self.old.events < MOST_EVENTS }
         ensures { self.new ≡ record self.old { events = self.old.events ++ event ∷ [] } }
     {
         self.list.push_reserved(event);

@@ -7,8 +7,8 @@ use Rattle.box_file.specs.declared.limits.Limits.{Limits}
 -- the ruleset and the box file
 pub record Setup : Type 0 where
   pub rules : List TableTree
-  pub plant : PlantTree
+  pub network : PlantTree
 
 -- the idle timeouts of connections
 abbrev pub limits_of : Setup → Limits
-limits_of setup = setup.plant.idle
+limits_of setup = setup.network.idle

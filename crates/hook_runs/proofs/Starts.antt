@@ -76,18 +76,18 @@ module _ (checked : CheckedTree) (code : Code) where
   -- ---- base chains in order
 
   runs_in_order : (ss : List Start) (bs : List BaseChain) → AreStartsOf checked code ss bs
-      → (f : Facts) (es : List Event) → InTurn checked.plant checked.rules bs f es
+      → (f : Facts) (es : List Event) → InTurn checked.network checked.rules bs f es
       (in_order_result code ss f es)
   runs_in_order [] [] all f es = refl
   runs_in_order [] (b ∷ bs) all f es = absurd all
   runs_in_order (s ∷ ss) [] all f es = absurd all
   runs_in_order (s ∷ ss) (b ∷ bs) all f es =
-      thens (RunsBaseChain checked.plant checked.rules b) (InTurn checked.plant checked.rules bs) f es
+      thens (RunsBaseChain checked.network checked.rules b) (InTurn checked.network checked.rules bs) f es
       (base_chain_result code s f es) (in_order_result code ss) (all.0.runs f es)
       (runs_in_order ss bs all.1)
 
   pub chains_run : (test : BaseChain → Bool) (ss : List Start) → AreStarts checked code test ss
-      → (f : Facts) (es : List Event) → Chains checked.plant checked.rules test f es
+      → (f : Facts) (es : List Event) → Chains checked.network checked.rules test f es
       (in_order_result code ss f es)
   chains_run test ss are f es = grind (arith, are.order, are.in_order, runs_in_order, are.are_starts)
 

@@ -23,7 +23,7 @@ pub record IsStartOf (checked : CheckedTree) (code : Code) (s : Start) (b : Base
   pub same : start_head s ≡ base_chain_head b
   pub costs : (cost : TableTree → Caller → ℕ) → AreAllCosts checked.rules cost
       → s.cost ≡ start_cost checked.rules cost b
-  pub runs : (f : Facts) (es : List Event) → RunsBaseChain checked.plant checked.rules b f es
+  pub runs : (f : Facts) (es : List Event) → RunsBaseChain checked.network checked.rules b f es
       (base_chain_result code s f es)
 
 abbrev pub AreStartsOf : CheckedTree → Code → List Start → List BaseChain → Type 0

@@ -49,7 +49,7 @@ stage_starts starts stages.PostroutingAfterNat = starts.postrouting_after_nat
 -- cost
 pub record CostedTree : Type 0 where
   pub rules : List TableTree
-  pub plant : PlantTree
+  pub network : PlantTree
   pub code : Code
   pub starts : StageStarts
   pub costs : StageCosts

@@ -1,6 +1,7 @@
 //! The events of a record, and the count of statements, as hooks run.
 ghost use Rattle.std.specs.Prelude.{◌≡◌, ◌≤◌, ◌<◌, ◌+◌, ◌-◌, ◌^◌, [], IfOk, length, min};
 ghost use Rattle.filter_vm.specs.Machine.{EventsAndTicks, base_chain_result, base_chain_stop};
+ghost use Rattle.filter_vm.specs.declared.events.TheConstants.{MOST_EVENTS};
 
 use filter_vm::{Code, Start, run_in_place};
 use rule_meaning::{Event, Facts, HookVerdict};
@@ -57,7 +58,7 @@ impl Events {
     /// Runs a packet through a base chain, as `run_in_place`.
     #[inline(always)]
     pub(crate) fn run_chain(&mut self, code: &Code, start: Start, facts: &mut Facts) -> HookVerdict
-        requires room { length self.old.events + start.cost ≤ 65536 }
+        requires room { length self.old.events + start.cost ≤ MOST_EVENTS }
         ensures end { record { verdict = result; facts = facts.new; events = self.new.events }
             ≡ base_chain_result code.now start facts.old self.old.events }
         ensures ticks { let stop = base_chain_stop code.now start facts.old self.old.events in

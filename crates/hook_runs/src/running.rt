@@ -2,6 +2,7 @@
 ghost use Rattle.std.specs.Prelude.{◌≡◌, ◌≤◌, ◌+◌, ◌-◌, ◌^◌, length, min};
 ghost use Rattle.hook_runs.specs.StageCode.{continues, started};
 ghost use Rattle.hook_runs.specs.steps.Starts.{cost_of, in_order_result};
+ghost use Rattle.filter_vm.specs.declared.events.TheConstants.{MOST_EVENTS};
 
 use crate::events::Events;
 use filter_vm::{Code, Start};
@@ -24,7 +25,7 @@ pub(crate) fn run_in_order(
     facts: &mut Facts,
     events: &mut Events,
 ) -> HookVerdict
-    requires room { length events.old.events + cost_of starts.now ≤ 65536 }
+    requires room { length events.old.events + cost_of starts.now ≤ MOST_EVENTS }
     ensures end { record { verdict = result; facts = facts.new; events = events.new.events }
         ≡ in_order_result code.now starts.now facts.old events.old.events }
     ensures events { length events.new.events ≤ length events.old.events + cost_of starts.now }

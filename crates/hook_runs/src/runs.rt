@@ -8,6 +8,7 @@ ghost use Rattle.code_layout.specs.CodeLayout.{AreTableCodes};
 ghost use Rattle.rule_meaning.specs.declared.stage.HookStage.{HookStage};
 ghost use Rattle.hook_runs.specs.Stages.{total_stage_cost, stage_cost, stage_starts};
 ghost use Rattle.hook_runs.specs.StageCode.{AreStarts, stage_started};
+ghost use Rattle.filter_vm.specs.declared.events.TheConstants.{MOST_EVENTS};
 
 use crate::events::Events;
 use crate::running::run_in_order;
@@ -57,10 +58,10 @@ impl HookRuns {
     /// `AllocError` for want of memory; the ruleset is dropped then.
     pub fn new(alloc: Global, checked: Checked) -> Result<(Self, Events), AllocError>
         ensures rules { IfOk result (λ made. made.0.rules ≡ checked.rules) }
-        ensures plant { IfOk result (λ made. made.0.plant ≡ checked.plant) }
+        ensures network { IfOk result (λ made. made.0.network ≡ checked.network) }
         // One step for each statement of the rules that packets get to.
         ensures steps { IfOk result (λ made.
-            AreTableCodes checked.plant checked.rules made.0.code.tables.items) }
+            AreTableCodes checked.network checked.rules made.0.code.tables.items) }
         ensures starts { IfOk result (λ made. (stage : HookStage)
             → AreStarts checked made.0.code (chains_in_stage stage)
             (stage_starts made.0.starts stage)) }
@@ -89,7 +90,7 @@ impl HookRuns {
     /// The ruleset, and the box that it was checked for.
     pub fn checked(&self) -> &Checked
         ensures rules { result.now.rules ≡ self.now.rules }
-        ensures plant { result.now.plant ≡ self.now.plant }
+        ensures network { result.now.network ≡ self.now.network }
     {
         &self.checked
     }
@@ -97,7 +98,7 @@ impl HookRuns {
     /// States, for proofs, that all stages together cost at most the limit on a record's events. The
     /// call does nothing.
     pub fn costs(&self)
-        ensures { total_stage_cost self.now ≤ 65536 }
+        ensures { total_stage_cost self.now ≤ MOST_EVENTS }
     {
         let _ = &self.code;
     }
@@ -108,8 +109,8 @@ impl HookRuns {
     /// the stage costs.
     #[inline(always)]
     pub fn run(&self, stage: HookStage, facts: &mut Facts, events: &mut Events) -> HookVerdict
-        requires room { length events.old.events + stage_cost self.now stage ≤ 65536 }
-        ensures end { Stage stage self.now.plant self.now.rules facts.old events.old.events
+        requires room { length events.old.events + stage_cost self.now stage ≤ MOST_EVENTS }
+        ensures end { Stage stage self.now.network self.now.rules facts.old events.old.events
             (record { verdict = result; facts = facts.new; events = events.new.events }) }
         ensures events { length events.new.events
             ≤ length events.old.events + stage_cost self.now stage }

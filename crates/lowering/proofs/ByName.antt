@@ -45,14 +45,14 @@ named-map t s wanted name i e fits =
     let m = by_name (λ (m : MapTree). m.name) name (maps_of t) (Some i) e in
     (m.0, m.1, m.2, second-fits (same_compared_type (selector_compared_type s) (map_key_compared_type m.0.types)) _ (rw m.2 at fits))
 
-module _ (plant : PlantTree) (t : TableTree) (l : Lookups) (i : ℕ) (m : MapTree) where
-  pub has-verdicts : (k : Option ComparedType) → same_data None k ≡ true → HasMap plant t l i m k
-      → HasTable l.verdicts.items i same (λ n. option_map (rule_verdict_of t) (declared_gives data_verdict plant (Some m) n))
+module _ (network : PlantTree) (t : TableTree) (l : Lookups) (i : ℕ) (m : MapTree) where
+  pub has-verdicts : (k : Option ComparedType) → same_data None k ≡ true → HasMap network t l i m k
+      → HasTable l.verdicts.items i same (λ n. option_map (rule_verdict_of t) (declared_gives data_verdict network (Some m) n))
   has-verdicts None fits has = has
   has-verdicts (Some k) fits has = absurd cc
 
   pub has-numbers : (given : ValueType) (k : Option ComparedType) → IsNumberType given → same_data (Some (Named given)) k ≡ true
-      → HasMap plant t l i m k → HasTable l.numbers.items i same (declared_gives (data_number plant (Named given)) plant (Some m))
+      → HasMap network t l i m k → HasTable l.numbers.items i same (declared_gives (data_number network (Named given)) network (Some m))
   has-numbers types.Mark (Some (Named types.Mark)) read fits has = has
   has-numbers types.Address (Some (Named types.Address)) read fits has = has
   has-numbers types.Mark _ read fits has = absurd cc

@@ -18,20 +18,20 @@ two-at P none i x at = absurd cc
 two-at P (more a b others bs q rest) zero x at = let e : a ≡ x = cc in (b, refl, subst (λ v. P v b) e q)
 two-at P (more a b others bs q rest) (suc i) x at = two-at P rest i x at
 
-has-map : (plant : PlantTree) (t : TableTree) (l : Lookups) (i : ℕ) (m : MapTree) (k : Option ComparedType)
+has-map : (network : PlantTree) (t : TableTree) (l : Lookups) (i : ℕ) (m : MapTree) (k : Option ComparedType)
     → map_data_compared_type m.types ≡ k
-    → (v : Table _) × (slice_get l.verdicts.items i ≡ Some v) × IsMapVerdicts plant t m v
-    → (w : Table ℕ) × (slice_get l.numbers.items i ≡ Some w) × IsMapNumbers plant m w → HasMap plant t l i m k
-has-map plant t l i m None e v w = (v.0, v.1, v.2 e)
-has-map plant t l i m (Some (Named types.Mark)) e v w = (w.0, w.1, w.2 types.Mark tt e)
-has-map plant t l i m (Some (Named types.Address)) e v w = (w.0, w.1, w.2 types.Address tt e)
-has-map plant t l i m (Some k) e v w = tt
+    → (v : Table _) × (slice_get l.verdicts.items i ≡ Some v) × IsMapVerdicts network t m v
+    → (w : Table ℕ) × (slice_get l.numbers.items i ≡ Some w) × IsMapNumbers network m w → HasMap network t l i m k
+has-map network t l i m None e v w = (v.0, v.1, v.2 e)
+has-map network t l i m (Some (Named types.Mark)) e v w = (w.0, w.1, w.2 types.Mark tt e)
+has-map network t l i m (Some (Named types.Address)) e v w = (w.0, w.1, w.2 types.Address tt e)
+has-map network t l i m (Some k) e v w = tt
 
-pub all-declared : (plant : PlantTree) (t : TableTree) (l : Lookups)
-    → AllPairs (IsDeclaredSet plant) (sets_of t) l.sets.items
-    → AllPairs (IsMapVerdicts plant t) (maps_of t) l.verdicts.items
-    → AllPairs (IsMapNumbers plant) (maps_of t) l.numbers.items → HasDeclared plant t l
-all-declared plant t l ss vs ns = grind (arith, two-at, has-map)
+pub all-declared : (network : PlantTree) (t : TableTree) (l : Lookups)
+    → AllPairs (IsDeclaredSet network) (sets_of t) l.sets.items
+    → AllPairs (IsMapVerdicts network t) (maps_of t) l.verdicts.items
+    → AllPairs (IsMapNumbers network) (maps_of t) l.numbers.items → HasDeclared network t l
+all-declared network t l ss vs ns = grind (arith, two-at, has-map)
 
 -- the sets of items without type faults have none
 pub sets-fit : (t : TableTree) (items : List ItemTree) → list_any (item_mismatches t) items ≡ false

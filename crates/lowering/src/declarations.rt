@@ -19,30 +19,30 @@ use set_intervals::Intervals;
 use std::alloc::{AllocError, Global};
 
 /// The lookup table of a declared set.
-fn declared_set(alloc: Global, plant: &Plant, set: &SetDecl) -> Result<Intervals<()>, AllocError>
+fn declared_set(alloc: Global, network: &Plant, set: &SetDecl) -> Result<Intervals<()>, AllocError>
     requires { is_too_wide (key_compared_types (set_tree set.now).key) ≡ false }
-    ensures { IfOk result (IsDeclaredSet plant.now (set_tree set.now)) }
+    ensures { IfOk result (IsDeclaredSet network.now (set_tree set.now)) }
 {
     let kinds = key_compared_types(alloc, &set.key)?;
     match &set.elements {
-        Some(elements) => set_table(alloc, plant, &kinds, elements),
-        None => set_table(alloc, plant, &kinds, &[]),
+        Some(elements) => set_table(alloc, network, &kinds, elements),
+        None => set_table(alloc, network, &kinds, &[]),
     }
 }
 
 /// The lookup tables of the declared sets, in text order.
 fn declared_sets(
     alloc: Global,
-    plant: &Plant,
+    network: &Plant,
     names: &TableNames,
 ) -> Result<Vec<Intervals<()>>, AllocError>
     requires types { table_mismatches names.now ≡ false }
     ensures { IfOk result (λ tables.
-        AllPairs (IsDeclaredSet plant.now) (sets_of names.now) tables.items) }
+        AllPairs (IsDeclaredSet network.now) (sets_of names.now) tables.items) }
 {
     let mut tables = Vec::new(alloc);
     for set in names.sets() {
-        tables.push(declared_set(alloc, plant, set)?)?;
+        tables.push(declared_set(alloc, network, set)?)?;
     }
     Ok(tables)
 }
@@ -60,31 +60,31 @@ fn pairs_of(declared: &MapDecl) -> &[Pair]
 /// The lookup table of a declared verdict map; an empty one where its data aren't verdicts.
 fn declared_verdicts(
     alloc: Global,
-    plant: &Plant,
+    network: &Plant,
     names: &TableNames,
     map: &MapDecl,
 ) -> Result<Intervals<RuleVerdict>, AllocError>
-    ensures { IfOk result (IsMapVerdicts plant.now names.now (map_tree map.now)) }
+    ensures { IfOk result (IsMapVerdicts network.now names.now (map_tree map.now)) }
 {
     match map.types.data() {
-        None => verdict_table(alloc, plant, names, map.types.key(), pairs_of(map)),
-        Some(_) => verdict_table(alloc, plant, names, map.types.key(), &[]),
+        None => verdict_table(alloc, network, names, map.types.key(), pairs_of(map)),
+        Some(_) => verdict_table(alloc, network, names, map.types.key(), &[]),
     }
 }
 
 /// The lookup table of a declared map of marks or addresses; an empty one for any other map.
 fn declared_numbers(
     alloc: Global,
-    plant: &Plant,
+    network: &Plant,
     map: &MapDecl,
 ) -> Result<Intervals<u32>, AllocError>
-    ensures { IfOk result (IsMapNumbers plant.now (map_tree map.now)) }
+    ensures { IfOk result (IsMapNumbers network.now (map_tree map.now)) }
 {
     match map.types.data() {
         Some(ComparedType::Named(ValueType::Mark)) => {
             number_table(
                 alloc,
-                plant,
+                network,
                 map.types.key(),
                 ValueType::Mark,
                 pairs_of(map),
@@ -93,13 +93,13 @@ fn declared_numbers(
         Some(ComparedType::Named(ValueType::Address)) => {
             number_table(
                 alloc,
-                plant,
+                network,
                 map.types.key(),
                 ValueType::Address,
                 pairs_of(map),
             )
         }
-        _ => number_table(alloc, plant, map.types.key(), ValueType::Mark, &[]),
+        _ => number_table(alloc, network, map.types.key(), ValueType::Mark, &[]),
     }
 }
 
@@ -107,16 +107,16 @@ fn declared_numbers(
 ///
 /// # Errors
 /// `AllocError` for want of memory.
-pub fn declared(alloc: Global, plant: &Plant, names: &TableNames) -> Result<Lookups, AllocError>
+pub fn declared(alloc: Global, network: &Plant, names: &TableNames) -> Result<Lookups, AllocError>
     requires types { table_mismatches names.now ≡ false }
-    ensures { IfOk result (λ lookups. HasDeclared plant.now names.now lookups) }
+    ensures { IfOk result (λ lookups. HasDeclared network.now names.now lookups) }
 {
-    let sets = declared_sets(alloc, plant, names)?;
+    let sets = declared_sets(alloc, network, names)?;
     let mut verdicts = Vec::new(alloc);
     let mut numbers = Vec::new(alloc);
     for map in names.maps() {
-        verdicts.push(declared_verdicts(alloc, plant, names, map)?)?;
-        numbers.push(declared_numbers(alloc, plant, map)?)?;
+        verdicts.push(declared_verdicts(alloc, network, names, map)?)?;
+        numbers.push(declared_numbers(alloc, network, map)?)?;
     }
     Ok(Lookups {
         sets,

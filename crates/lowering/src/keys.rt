@@ -66,14 +66,14 @@ fn appended(number: u128, kind: ComparedType, next: u128) -> u128
 
 /// The concatenation of values of these types, the first one in the highest bits. `None` where a
 /// value has no number of its type, or the counts of types and values differ.
-fn concatenated(plant: &Plant, kinds: &[ComparedType], values: &[Value]) -> Option<u128>
+fn concatenated(network: &Plant, kinds: &[ComparedType], values: &[Value]) -> Option<u128>
     requires { is_too_wide kinds.now ≡ false }
-    ensures { result ≡ join 0 (parts plant.now kinds.now (map value_tree values.now)) }
+    ensures { result ≡ join 0 (parts network.now kinds.now (map value_tree values.now)) }
 {
     let mut number = 0;
     for (part, kind) in kinds.iter().enumerate() {
         let value = values.get(part)?;
-        let next = value_numbers(plant, *kind, value)?.low();
+        let next = value_numbers(network, *kind, value)?.low();
         number = appended(number, *kind, next);
     }
     if values.len() > kinds.len() {
@@ -83,17 +83,17 @@ fn concatenated(plant: &Plant, kinds: &[ComparedType], values: &[Value]) -> Opti
 }
 
 /// The interval of a key of these types; `None` where it has no number of them.
-pub(crate) fn key_numbers(plant: &Plant, kinds: &[ComparedType], key: &Key) -> Option<Range>
+pub(crate) fn key_numbers(network: &Plant, kinds: &[ComparedType], key: &Key) -> Option<Range>
     requires { is_too_wide kinds.now ≡ false }
-    ensures { option_map span_of result ≡ key_numbers plant.now kinds.now (key_tree key.now) }
+    ensures { option_map span_of result ≡ key_numbers network.now kinds.now (key_tree key.now) }
 {
     match key {
         Key::Single(range) => match kinds {
-            [kind] => numbers_of(plant, *kind, range),
+            [kind] => numbers_of(network, *kind, range),
             _ => None,
         },
         Key::Joined(values) => {
-            let number = concatenated(plant, kinds, values)?;
+            let number = concatenated(network, kinds, values)?;
             Range::new(number, number)
         }
     }

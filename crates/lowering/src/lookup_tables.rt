@@ -36,7 +36,7 @@ fn add_table<V: Drop>(
 /// Adds the table of an anonymous set, and returns its index.
 fn add_set(
     alloc: Global,
-    plant: &Plant,
+    network: &Plant,
     selectors: &[Selector],
     elements: &[Element],
     lookups: &mut Lookups,
@@ -44,43 +44,43 @@ fn add_set(
     requires { is_too_wide (map selector_compared_type selectors.now) ≡ false }
     ensures extends { OnOk result (Extends lookups.old lookups.new) }
     ensures has { IfOk result (HasSet lookups.new
-        (elements_have plant.now (map selector_compared_type selectors.now)
+        (elements_have network.now (map selector_compared_type selectors.now)
         (map element_tree elements.now))) }
 {
     let kinds = selector_kinds(alloc, selectors)?;
-    let table = set_table(alloc, plant, &kinds, elements)?;
+    let table = set_table(alloc, network, &kinds, elements)?;
     add_table(&mut lookups.sets, table)
 }
 
 /// The index of a set's table: that of a declared set, or of a new table for an anonymous one.
 pub(crate) fn set_index(
     alloc: Global,
-    plant: &Plant,
+    network: &Plant,
     names: &TableNames,
     selectors: &[Selector],
     set: &SetRef,
     lookups: &mut Lookups,
 ) -> Result<usize, AllocError>
-    requires declared { HasDeclared plant.now names.now lookups.old }
+    requires declared { HasDeclared network.now names.now lookups.old }
     requires types { lookup_mismatches names.now selectors.now (set_ref_tree set.now) ≡ false }
     ensures extends { OnOk result (Extends lookups.old lookups.new) }
     ensures has { IfOk result (HasSet lookups.new
-        (set_has (scope_of plant.now names.now) selectors.now (set_ref_tree set.now))) }
+        (set_has (scope_of network.now names.now) selectors.now (set_ref_tree set.now))) }
 {
     match set {
         SetRef::Named(name) => match names.set_index(name) {
             Some(place) => Ok(place),
             // An undeclared set has no element.
-            None => add_set(alloc, plant, selectors, &[], lookups),
+            None => add_set(alloc, network, selectors, &[], lookups),
         },
-        SetRef::Anonymous(elements) => add_set(alloc, plant, selectors, elements, lookups),
+        SetRef::Anonymous(elements) => add_set(alloc, network, selectors, elements, lookups),
     }
 }
 
 /// Adds the table of an anonymous verdict map, and returns its index.
 fn add_verdicts(
     alloc: Global,
-    plant: &Plant,
+    network: &Plant,
     names: &TableNames,
     selector: Selector,
     pairs: &[Pair],
@@ -88,10 +88,10 @@ fn add_verdicts(
 ) -> Result<usize, AllocError>
     ensures extends { OnOk result (Extends lookups.old lookups.new) }
     ensures gives { IfOk result (HasVerdicts lookups.new (λ n. option_map (rule_verdict_of names.now)
-        (pairs_give data_verdict plant.now (selector_compared_type selector)
+        (pairs_give data_verdict network.now (selector_compared_type selector)
         (map pair_tree pairs.now) n))) }
 {
-    let table = verdict_table(alloc, plant, names, selector.kind(), pairs)?;
+    let table = verdict_table(alloc, network, names, selector.kind(), pairs)?;
     add_table(&mut lookups.verdicts, table)
 }
 
@@ -99,33 +99,33 @@ fn add_verdicts(
 /// one.
 pub(crate) fn verdict_map_index(
     alloc: Global,
-    plant: &Plant,
+    network: &Plant,
     names: &TableNames,
     selector: Selector,
     map: &MapRef,
     lookups: &mut Lookups,
 ) -> Result<usize, AllocError>
-    requires declared { HasDeclared plant.now names.now lookups.old }
+    requires declared { HasDeclared network.now names.now lookups.old }
     requires types { map_ref_mismatches names.now selector None (map_ref_tree map.now) ≡ false }
     ensures extends { OnOk result (Extends lookups.old lookups.new) }
     ensures gives { IfOk result (HasVerdicts lookups.new (λ n. option_map (rule_verdict_of names.now)
-        (map_gives data_verdict (scope_of plant.now names.now) selector (map_ref_tree map.now)
+        (map_gives data_verdict (scope_of network.now names.now) selector (map_ref_tree map.now)
         n))) }
 {
     match map {
         MapRef::Named(name) => match names.map_index(name) {
             Some(place) => Ok(place),
             // An undeclared map has no element.
-            None => add_verdicts(alloc, plant, names, selector, &[], lookups),
+            None => add_verdicts(alloc, network, names, selector, &[], lookups),
         },
-        MapRef::Anonymous(pairs) => add_verdicts(alloc, plant, names, selector, pairs, lookups),
+        MapRef::Anonymous(pairs) => add_verdicts(alloc, network, names, selector, pairs, lookups),
     }
 }
 
 /// Adds the table of an anonymous map of marks or addresses, and returns its index.
 fn add_numbers(
     alloc: Global,
-    plant: &Plant,
+    network: &Plant,
     selector: Selector,
     given: ValueType,
     pairs: &[Pair],
@@ -134,10 +134,10 @@ fn add_numbers(
     requires { IsNumberType given }
     ensures extends { OnOk result (Extends lookups.old lookups.new) }
     ensures gives { IfOk result (HasNumbers lookups.new
-        (pairs_give (data_number plant.now (Named given)) plant.now
+        (pairs_give (data_number network.now (Named given)) network.now
         (selector_compared_type selector) (map pair_tree pairs.now))) }
 {
-    let table = number_table(alloc, plant, selector.kind(), given, pairs)?;
+    let table = number_table(alloc, network, selector.kind(), given, pairs)?;
     add_table(&mut lookups.numbers, table)
 }
 
@@ -145,29 +145,29 @@ fn add_numbers(
 /// for an anonymous one.
 pub(crate) fn number_map_index(
     alloc: Global,
-    plant: &Plant,
+    network: &Plant,
     names: &TableNames,
     given: ValueType,
     look: &MapLookup,
     lookups: &mut Lookups,
 ) -> Result<usize, AllocError>
     requires read { IsNumberType given }
-    requires declared { HasDeclared plant.now names.now lookups.old }
+    requires declared { HasDeclared network.now names.now lookups.old }
     requires types { map_ref_mismatches names.now look.now.selector (Some (Named given))
         (map_ref_tree look.now.map) ≡ false }
     ensures extends { OnOk result (Extends lookups.old lookups.new) }
     ensures gives { IfOk result (HasNumbers lookups.new
-        (map_gives (data_number plant.now (Named given)) (scope_of plant.now names.now)
+        (map_gives (data_number network.now (Named given)) (scope_of network.now names.now)
         look.now.selector (map_ref_tree look.now.map))) }
 {
     match &look.map {
         MapRef::Named(name) => match names.map_index(name) {
             Some(place) => Ok(place),
             // An undeclared map has no element.
-            None => add_numbers(alloc, plant, look.selector, given, &[], lookups),
+            None => add_numbers(alloc, network, look.selector, given, &[], lookups),
         },
         MapRef::Anonymous(pairs) => {
-            add_numbers(alloc, plant, look.selector, given, pairs, lookups)
+            add_numbers(alloc, network, look.selector, given, pairs, lookups)
         }
     }
 }

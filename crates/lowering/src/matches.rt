@@ -28,12 +28,12 @@ fn never(selector: Selector) -> Action
 }
 
 /// A selector against a value, a range or a prefix.
-fn compare(plant: &Plant, selector: Selector, operator: Operator, range: &ValueRange) -> Action
+fn compare(network: &Plant, selector: Selector, operator: Operator, range: &ValueRange) -> Action
     ensures { AlwaysHasEffect (λ f. passes_if (tests (value selector f)
-        (compares_with operator (numbers_of plant.now (selector_compared_type selector)
+        (compares_with operator (numbers_of network.now (selector_compared_type selector)
         (range_tree range.now))))) result }
 {
-    match numbers_of(plant, selector.kind(), range) {
+    match numbers_of(network, selector.kind(), range) {
         Some(numbers) => Action::Compare(selector, operator, numbers),
         None => never(selector),
     }
@@ -120,29 +120,29 @@ pub(crate) fn flags_of(flags: &[Flag]) -> u128
 /// The action of a match. The table of an anonymous set is added.
 pub(crate) fn lower_match(
     alloc: Global,
-    plant: &Plant,
+    network: &Plant,
     names: &TableNames,
     test: &Match,
     lookups: &mut Lookups,
 ) -> Result<Action, AllocError>
-    requires declared { HasDeclared plant.now names.now lookups.old }
+    requires declared { HasDeclared network.now names.now lookups.old }
     requires types { match_mismatches names.now (match_tree test.now) ≡ false }
     ensures extends { OnOk result (Extends lookups.old lookups.new) }
     ensures effect { IfOk result (HasEffect lookups.new
-        (λ f. passes_if (holds (scope_of plant.now names.now) (match_tree test.now) f))) }
+        (λ f. passes_if (holds (scope_of network.now names.now) (match_tree test.now) f))) }
 {
     const FLAGS: Selector = Selector::TcpFlags;
     match test {
         Match::Compare(selector, operator, range) => {
-            Ok(compare(plant, *selector, *operator, range))
+            Ok(compare(network, *selector, *operator, range))
         }
         Match::In(selectors, set) => Ok(Action::InSet(
             selectors.clone()?,
-            set_index(alloc, plant, names, selectors, set, lookups)?,
+            set_index(alloc, network, names, selectors, set, lookups)?,
         )),
         Match::NotIn(selectors, set) => Ok(Action::NotInSet(
             selectors.clone()?,
-            set_index(alloc, plant, names, selectors, set, lookups)?,
+            set_index(alloc, network, names, selectors, set, lookups)?,
         )),
         Match::Bits(field, how, words) => Ok(test_bits(*field, *how, words)),
         Match::AnyFlag(flags) => Ok(Action::BitsUnequal(FLAGS, flags_of(flags), 0)),

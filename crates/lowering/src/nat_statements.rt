@@ -74,26 +74,26 @@ fn translate(action: NatAction) -> Action
 /// The action of a NAT statement. The table of an anonymous map is added.
 pub(crate) fn lower_nat(
     alloc: Global,
-    plant: &Plant,
+    network: &Plant,
     names: &TableNames,
     nat: &Nat,
     lookups: &mut Lookups,
 ) -> Result<Action, AllocError>
-    requires declared { HasDeclared plant.now names.now lookups.old }
+    requires declared { HasDeclared network.now names.now lookups.old }
     requires types { statement_mismatches names.now (tree.nat (nat_tree nat.now)) ≡ false }
     requires bounds { nat_out_of_range (nat_tree nat.now) ≡ false }
     ensures extends { OnOk result (Extends lookups.old lookups.new) }
     ensures effect { IfOk result (HasEffect lookups.new
         (λ f. with_value (λ t. give (RuleVerdict.Translate t))
-        (nat_action_of (scope_of plant.now names.now) (nat_tree nat.now) f))) }
+        (nat_action_of (scope_of network.now names.now) (nat_tree nat.now) f))) }
 {
     match nat {
         Nat::Source(SourceTarget::MapLookup(look)) => {
-            let index = number_map_index(alloc, plant, names, ValueType::Address, look, lookups)?;
+            let index = number_map_index(alloc, network, names, ValueType::Address, look, lookups)?;
             Ok(Action::TranslateSource(look.selector, index))
         }
         Nat::Destination(DestinationTarget::MapLookup(look)) => {
-            let index = number_map_index(alloc, plant, names, ValueType::Address, look, lookups)?;
+            let index = number_map_index(alloc, network, names, ValueType::Address, look, lookups)?;
             Ok(Action::TranslateDestination(look.selector, index))
         }
         Nat::Source(SourceTarget::Address(address, ports)) => Ok(translate(NatAction::Source(

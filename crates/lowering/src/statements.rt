@@ -23,26 +23,26 @@ use std::alloc::{AllocError, Global};
 /// The operand of `meta mark set` or `ct mark set`.
 fn lower_operand(
     alloc: Global,
-    plant: &Plant,
+    network: &Plant,
     names: &TableNames,
     field: MarkField,
     operand: &Operand,
     lookups: &mut Lookups,
 ) -> Result<Source, AllocError>
-    requires declared { HasDeclared plant.now names.now lookups.old }
+    requires declared { HasDeclared network.now names.now lookups.old }
     requires types { statement_mismatches names.now (tree.set_mark field (operand_tree operand.now))
         ≡ false }
     requires bounds { statement_out_of_range (tree.set_mark field (operand_tree operand.now))
         ≡ false }
     ensures extends { OnOk result (Extends lookups.old lookups.new) }
     ensures reads { IfOk result (ReadsAs lookups.new
-        (operand_number (scope_of plant.now names.now) (operand_tree operand.now))) }
+        (operand_number (scope_of network.now names.now) (operand_tree operand.now))) }
 {
     match operand {
         Operand::Number(number) => Ok(Source::Number(*number as u32)),
         Operand::Mark(read) => Ok(Source::Mark(*read)),
         Operand::MapLookup(look) => {
-            let number = number_map_index(alloc, plant, names, ValueType::Mark, look, lookups)?;
+            let number = number_map_index(alloc, network, names, ValueType::Mark, look, lookups)?;
             Ok(Source::MapLookup(look.selector, number))
         }
     }
@@ -56,33 +56,33 @@ fn lower_operand(
 /// `AllocError` for want of memory; there may be one more table then, which no action refers to.
 pub fn action(
     alloc: Global,
-    plant: &Plant,
+    network: &Plant,
     names: &TableNames,
     position: StatementPosition,
     stmt: &Stmt,
     lookups: &mut Lookups,
 ) -> Result<Action, AllocError>
-    requires declared { HasDeclared plant.now names.now lookups.old }
+    requires declared { HasDeclared network.now names.now lookups.old }
     requires types { statement_mismatches names.now (statement stmt.now) ≡ false }
     requires bounds { statement_out_of_range (statement stmt.now) ≡ false }
     ensures extends { OnOk result (Extends lookups.old lookups.new) }
     ensures effect { IfOk result (λ action. (later : Lookups) → Extends lookups.new later
-        → HasEffectOf plant.now names.now later position (statement stmt.now) action) }
+        → HasEffectOf network.now names.now later position (statement stmt.now) action) }
 {
     match stmt {
-        Stmt::Match(test) => lower_match(alloc, plant, names, test, lookups),
+        Stmt::Match(test) => lower_match(alloc, network, names, test, lookups),
         Stmt::Counter(_) => Ok(Action::Count(position)),
         Stmt::Log(_) => Ok(Action::Log(position)),
         Stmt::NoTrack => Ok(Action::NoTrack),
         Stmt::SetMark(field, operand) => {
-            let source = lower_operand(alloc, plant, names, *field, operand, lookups)?;
+            let source = lower_operand(alloc, network, names, *field, operand, lookups)?;
             Ok(Action::SetMark(*field, source))
         }
         Stmt::VerdictMap(selector, map) => Ok(Action::LookUpVerdict(
             *selector,
-            verdict_map_index(alloc, plant, names, *selector, map, lookups)?,
+            verdict_map_index(alloc, network, names, *selector, map, lookups)?,
         )),
         Stmt::Verdict(verdict) => Ok(Action::GiveVerdict(rule_verdict(names, verdict)?)),
-        Stmt::Nat(nat) => lower_nat(alloc, plant, names, nat, lookups),
+        Stmt::Nat(nat) => lower_nat(alloc, network, names, nat, lookups),
     }
 }

@@ -62,29 +62,29 @@ fn push_entry<V: Drop>(
 }
 
 /// The interval of an element's key; `None` where it has no number of these types.
-fn element_entry(plant: &Plant, kinds: &[ComparedType], element: &Element) -> Option<(Range, ())>
+fn element_entry(network: &Plant, kinds: &[ComparedType], element: &Element) -> Option<(Range, ())>
     requires { is_too_wide kinds.now ≡ false }
     ensures { (n : ℕ) → is_some (entry_gives result n)
-        ≡ spans (key_numbers plant.now kinds.now (element_tree element.now).key) n }
+        ≡ spans (key_numbers network.now kinds.now (element_tree element.now).key) n }
 {
-    let range = key_numbers(plant, kinds, &element.key)?;
+    let range = key_numbers(network, kinds, &element.key)?;
     Some((range, ()))
 }
 
 /// The intervals of elements of these types. An element that has none is left out.
 fn element_pairs(
     alloc: Global,
-    plant: &Plant,
+    network: &Plant,
     kinds: &[ComparedType],
     elements: &[Element],
 ) -> Result<Vec<(Range, ())>, AllocError>
     requires { is_too_wide kinds.now ≡ false }
     ensures { IfOk result (λ pairs.
-        IsSetTable plant.now kinds.now (map element_tree elements.now) pairs.items) }
+        IsSetTable network.now kinds.now (map element_tree elements.now) pairs.items) }
 {
     let mut pairs = Vec::new(alloc);
     for element in elements {
-        push_entry(&mut pairs, element_entry(plant, kinds, element))?;
+        push_entry(&mut pairs, element_entry(network, kinds, element))?;
     }
     Ok(pairs)
 }
@@ -93,14 +93,14 @@ fn element_pairs(
 /// counts.
 pub(crate) fn set_table(
     alloc: Global,
-    plant: &Plant,
+    network: &Plant,
     kinds: &[ComparedType],
     elements: &[Element],
 ) -> Result<Intervals<()>, AllocError>
     requires { is_too_wide kinds.now ≡ false }
-    ensures { IfOk result (IsSetTable plant.now kinds.now (map element_tree elements.now)) }
+    ensures { IfOk result (IsSetTable network.now kinds.now (map element_tree elements.now)) }
 {
-    let pairs = element_pairs(alloc, plant, kinds, elements)?;
+    let pairs = element_pairs(alloc, network, kinds, elements)?;
     Intervals::first_wins(alloc, &pairs)
 }
 
@@ -118,16 +118,16 @@ fn element_verdict(names: &TableNames, datum: &Data) -> Result<Option<RuleVerdic
 /// The interval of an element's key and its verdict; `None` where the key has no number of the
 /// type, or the element has a value.
 fn verdict_entry(
-    plant: &Plant,
+    network: &Plant,
     names: &TableNames,
     kind: ComparedType,
     pair: &Pair,
 ) -> Result<Option<(Range, RuleVerdict)>, AllocError>
     ensures { IfOk result (λ entry. (n : ℕ) → entry_gives entry n
-        ≡ option_map (rule_verdict_of names.now) (pair_gives data_verdict plant.now kind n
+        ≡ option_map (rule_verdict_of names.now) (pair_gives data_verdict network.now kind n
         (pair_tree pair.now))) }
 {
-    let Some(range) = numbers_of(plant, kind, &pair.key) else {
+    let Some(range) = numbers_of(network, kind, &pair.key) else {
         return Ok(None);
     };
     let Some(rule_verdict) = element_verdict(names, &pair.value)? else {
@@ -139,17 +139,17 @@ fn verdict_entry(
 /// The intervals and verdicts of a verdict map's elements.
 fn verdict_pairs(
     alloc: Global,
-    plant: &Plant,
+    network: &Plant,
     names: &TableNames,
     kind: ComparedType,
     pairs: &[Pair],
 ) -> Result<Vec<(Range, RuleVerdict)>, AllocError>
     ensures { IfOk result (λ entries.
-        IsVerdictTable plant.now names.now kind (map pair_tree pairs.now) entries.items) }
+        IsVerdictTable network.now names.now kind (map pair_tree pairs.now) entries.items) }
 {
     let mut entries = Vec::new(alloc);
     for pair in pairs {
-        push_entry(&mut entries, verdict_entry(plant, names, kind, pair)?)?;
+        push_entry(&mut entries, verdict_entry(network, names, kind, pair)?)?;
     }
     Ok(entries)
 }
@@ -158,26 +158,26 @@ fn verdict_pairs(
 /// counts.
 pub(crate) fn verdict_table(
     alloc: Global,
-    plant: &Plant,
+    network: &Plant,
     names: &TableNames,
     kind: ComparedType,
     pairs: &[Pair],
 ) -> Result<Intervals<RuleVerdict>, AllocError>
-    ensures { IfOk result (IsVerdictTable plant.now names.now kind (map pair_tree pairs.now)) }
+    ensures { IfOk result (IsVerdictTable network.now names.now kind (map pair_tree pairs.now)) }
 {
-    let entries = verdict_pairs(alloc, plant, names, kind, pairs)?;
+    let entries = verdict_pairs(alloc, network, names, kind, pairs)?;
     Intervals::first_wins(alloc, &entries)
 }
 
 /// The mark or address of an element; `None` where it has none.
-fn data_number(plant: &Plant, given: ValueType, datum: &Data) -> Option<u32>
+fn data_number(network: &Plant, given: ValueType, datum: &Data) -> Option<u32>
     requires { IsNumberType given }
-    ensures { result ≡ data_number plant.now (Named given) (data_tree datum.now) }
+    ensures { result ≡ data_number network.now (Named given) (data_tree datum.now) }
 {
     match datum {
         Data::Verdict(_) => None,
         Data::Value(value) => {
-            let number = value_numbers(plant, ComparedType::Named(given), value)?.low();
+            let number = value_numbers(network, ComparedType::Named(given), value)?.low();
             Some(number as u32)
         }
     }
@@ -186,35 +186,35 @@ fn data_number(plant: &Plant, given: ValueType, datum: &Data) -> Option<u32>
 /// The interval of an element's key, and its mark or address; `None` where one of them has no
 /// number.
 fn number_entry(
-    plant: &Plant,
+    network: &Plant,
     kind: ComparedType,
     given: ValueType,
     pair: &Pair,
 ) -> Option<(Range, u32)>
     requires { IsNumberType given }
-    ensures { (n : ℕ) → entry_gives result n ≡ pair_gives (data_number plant.now (Named given))
-        plant.now kind n (pair_tree pair.now) }
+    ensures { (n : ℕ) → entry_gives result n ≡ pair_gives (data_number network.now (Named given))
+        network.now kind n (pair_tree pair.now) }
 {
-    let range = numbers_of(plant, kind, &pair.key)?;
-    let number = data_number(plant, given, &pair.value)?;
+    let range = numbers_of(network, kind, &pair.key)?;
+    let number = data_number(network, given, &pair.value)?;
     Some((range, number))
 }
 
 /// The intervals and numbers of the elements of a map of marks or addresses.
 fn number_pairs(
     alloc: Global,
-    plant: &Plant,
+    network: &Plant,
     kind: ComparedType,
     given: ValueType,
     pairs: &[Pair],
 ) -> Result<Vec<(Range, u32)>, AllocError>
     requires { IsNumberType given }
     ensures { IfOk result (λ entries.
-        IsNumberTable plant.now kind given (map pair_tree pairs.now) entries.items) }
+        IsNumberTable network.now kind given (map pair_tree pairs.now) entries.items) }
 {
     let mut entries = Vec::new(alloc);
     for pair in pairs {
-        push_entry(&mut entries, number_entry(plant, kind, given, pair))?;
+        push_entry(&mut entries, number_entry(network, kind, given, pair))?;
     }
     Ok(entries)
 }
@@ -223,14 +223,14 @@ fn number_pairs(
 /// `kind`. The first one counts.
 pub(crate) fn number_table(
     alloc: Global,
-    plant: &Plant,
+    network: &Plant,
     kind: ComparedType,
     given: ValueType,
     pairs: &[Pair],
 ) -> Result<Intervals<u32>, AllocError>
     requires { IsNumberType given }
-    ensures { IfOk result (IsNumberTable plant.now kind given (map pair_tree pairs.now)) }
+    ensures { IfOk result (IsNumberTable network.now kind given (map pair_tree pairs.now)) }
 {
-    let entries = number_pairs(alloc, plant, kind, given, pairs)?;
+    let entries = number_pairs(alloc, network, kind, given, pairs)?;
     Intervals::first_wins(alloc, &entries)
 }

@@ -32,9 +32,9 @@ pub fn put_line(
     text: &mut Vec<u8>,
     alloc: Global,
     line: &Line,
-    plant: &Plant,
+    network: &Plant,
 ) -> Result<(), AllocError> {
-    let mut matches = Writer::new(alloc, line, plant)?;
+    let mut matches = Writer::new(alloc, line, network)?;
     put_matches(&mut matches)?;
     text.extend_from_slice(if matches.text.is_empty() {
         b"any packet"

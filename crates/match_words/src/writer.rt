@@ -17,7 +17,7 @@ const PROTOCOL_COUNT: usize = 256;
 pub(crate) struct Writer<'a> {
     alloc: Global,
     line: &'a Line,
-    plant: &'a Plant,
+    network: &'a Plant,
     header: Header,
     protocols: Vec<Numbers>,
     pub(crate) text: Vec<u8>,
@@ -39,7 +39,7 @@ impl<'a> Writer<'a> {
     pub(crate) fn new(
         alloc: Global,
         line: &'a Line,
-        plant: &'a Plant,
+        network: &'a Plant,
     ) -> Result<Writer<'a>, AllocError> {
         let protocols = match numbers_of(line, FactField::Protocol) {
             Some(numbers) => protocols(alloc, numbers)?,
@@ -48,7 +48,7 @@ impl<'a> Writer<'a> {
         Ok(Writer {
             alloc,
             line,
-            plant,
+            network,
             header: header_of(&protocols),
             protocols,
             text: Vec::new(alloc),
@@ -110,7 +110,7 @@ impl<'a> Writer<'a> {
         first: u32,
         numbers: &[Numbers],
     ) -> Result<(), AllocError> {
-        let indexes = self.plant.indexes(self.alloc)?;
+        let indexes = self.network.indexes(self.alloc)?;
         let shown = shown_of(self.alloc, &indexes, first, numbers)?;
         if shown.is_empty() || shows_all(&indexes, first, numbers) {
             return Ok(());
@@ -126,7 +126,7 @@ impl<'a> Writer<'a> {
             put_between(&mut self.text, place, b", ")?;
             self.text.push(b'"')?;
             self.text
-                .extend_from_slice(self.plant.name(*index).unwrap_or(b""))?;
+                .extend_from_slice(self.network.name(*index).unwrap_or(b""))?;
             self.text.push(b'"')?;
         }
         end_choice(&mut self.text, indexes.len())

@@ -170,8 +170,7 @@ impl Findings<'_> {
                 self.add(place, warning::RESERVED_NAME);
             }
             Value::String(name)
-                if name.len() > MOST_OF_WILDCARD && wildcard_stem(value).is_some() =>
-            {
+                if name.len() > MOST_OF_WILDCARD && wildcard_stem(value).is_some() => {
                 self.add(place, warning::LONG_WILDCARD);
             }
             _ => {}

@@ -18,25 +18,25 @@ name-rises : (n : Text) (beginning : Option Text) → (name_span n beginning).lo
 name-rises n None = omega arith
 name-rises n (Some beginning) = padded-le beginning
 
-text-rises : (plant : PlantTree) (k : ComparedType) (n : Text) → (text_span plant k n).low ≤ (text_span plant k n).high
-text-rises plant (Named types.InterfaceName) n = name-rises n (wildcard_prefix n)
-text-rises plant (Named types.InterfaceIndex) n = omega arith
-text-rises plant (Named t) n = omega arith
-text-rises plant (Unnamed width) n = omega arith
+text-rises : (network : PlantTree) (k : ComparedType) (n : Text) → (text_span network k n).low ≤ (text_span network k n).high
+text-rises network (Named types.InterfaceName) n = name-rises n (wildcard_prefix n)
+text-rises network (Named types.InterfaceIndex) n = omega arith
+text-rises network (Named t) n = omega arith
+text-rises network (Unnamed width) n = omega arith
 
-value-rises : (plant : PlantTree) (k : ComparedType) (v : ValueTree) → (value_span plant k v).low ≤ (value_span plant k v).high
-value-rises plant k (tree.number n) = omega arith
-value-rises plant k (tree.address a) = omega arith
-value-rises plant k (tree.word w) = text-rises plant k w
-value-rises plant k (tree.string s) = text-rises plant k s
+value-rises : (network : PlantTree) (k : ComparedType) (v : ValueTree) → (value_span network k v).low ≤ (value_span network k v).high
+value-rises network k (tree.number n) = omega arith
+value-rises network k (tree.address a) = omega arith
+value-rises network k (tree.word w) = text-rises network k w
+value-rises network k (tree.string s) = text-rises network k s
 
 prefix-rises : (low size : ℕ) → 0 < size → low ≤ low + size - 1
 prefix-rises low size some = omega arith
 
-range-rises : (plant : PlantTree) (k : ComparedType) (r : RangeTree) → is_range plant k r ≡ true → (range_span plant k r).low ≤ (range_span plant k r).high
-range-rises plant k (tree.one v) e = value-rises plant k v
-range-rises plant k (tree.between low high) e = leb-true _ _ (and_parts _ _ e).1
-range-rises plant k (tree.prefix a n) e = prefix-rises (a / 2 ^ (32 - n) * 2 ^ (32 - n)) (2 ^ (32 - n)) (pow_pos (32 - n))
+range-rises : (network : PlantTree) (k : ComparedType) (r : RangeTree) → is_range network k r ≡ true → (range_span network k r).low ≤ (range_span network k r).high
+range-rises network k (tree.one v) e = value-rises network k v
+range-rises network k (tree.between low high) e = leb-true _ _ (and_parts _ _ e).1
+range-rises network k (tree.prefix a n) e = prefix-rises (a / 2 ^ (32 - n) * 2 ^ (32 - n)) (2 ^ (32 - n)) (pow_pos (32 - n))
 
 abbrev span : ℕ → ℕ → Span
 span low high = record { low = low; high = high }
@@ -54,8 +54,8 @@ guarded true true s t e f same = ap Some same
 guarded true false s t e f same = absurd cc
 guarded false b s t e f same = absurd cc
 
-pub range_made : (plant : PlantTree) (k : ComparedType) (range : RangeTree) (s : Span) (r : Option Range)
-    → is_range plant k range ≡ true → has_numbers plant k range ≡ true → s ≡ range_span plant k range
+pub range_made : (network : PlantTree) (k : ComparedType) (range : RangeTree) (s : Span) (r : Option Range)
+    → is_range network k range ≡ true → has_numbers network k range ≡ true → s ≡ range_span network k range
     → MatchOption r (s.high < s.low) (λ r. (r.low ≡ s.low) × (r.high ≡ s.high)) → option_map span_of r
-    ≡ numbers_of plant k range
-range_made plant k range s r good here e h = grind (arith, made, range-rises, guarded)
+    ≡ numbers_of network k range
+range_made network k range s r good here e h = grind (arith, made, range-rises, guarded)

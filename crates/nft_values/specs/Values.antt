@@ -65,10 +65,10 @@ is_value k (tree.string s) = is_name_of k s
 
 -- the interface of a value of type iface_index exists on the box; an index has 32 bits
 abbrev pub is_on_box : PlantTree → ComparedType → ValueTree → Bool
-is_on_box plant (Named types.InterfaceIndex) (tree.number n) = nat_lt n (2 ^ 32) && is_some (name_of plant n)
-is_on_box plant (Named types.InterfaceIndex) (tree.word w) = is_some (named plant w)
-is_on_box plant (Named types.InterfaceIndex) (tree.string s) = is_some (named plant s)
-is_on_box plant _ v = true
+is_on_box network (Named types.InterfaceIndex) (tree.number n) = nat_lt n (2 ^ 32) && is_some (name_of network n)
+is_on_box network (Named types.InterfaceIndex) (tree.word w) = is_some (named network w)
+is_on_box network (Named types.InterfaceIndex) (tree.string s) = is_some (named network s)
+is_on_box network _ v = true
 
 -- ---- numbers
 
@@ -99,16 +99,16 @@ name_span n (Some beginning) = record { low = padded 0 beginning; high = padded 
 
 -- the numbers of a word or a string: an interface name, an interface's index, or the type's symbolic constant
 abbrev pub text_span : PlantTree → ComparedType → Text → Span
-text_span plant (Named types.InterfaceName) n = name_span n (wildcard_prefix n)
-text_span plant (Named types.InterfaceIndex) n = one_number (unwrap_or (named plant n) 0)
-text_span plant (Named t) n = one_number (unwrap_or (number_in (words_of t) n) 0)
-text_span plant (Unnamed width) n = one_number 0
+text_span network (Named types.InterfaceName) n = name_span n (wildcard_prefix n)
+text_span network (Named types.InterfaceIndex) n = one_number (unwrap_or (named network n) 0)
+text_span network (Named t) n = one_number (unwrap_or (number_in (words_of t) n) 0)
+text_span network (Unnamed width) n = one_number 0
 
 abbrev pub value_span : PlantTree → ComparedType → ValueTree → Span
-value_span plant k (tree.number n) = one_number n
-value_span plant k (tree.address a) = one_number a
-value_span plant k (tree.word w) = text_span plant k w
-value_span plant k (tree.string s) = text_span plant k s
+value_span network k (tree.number n) = one_number n
+value_span network k (tree.address a) = one_number a
+value_span network k (tree.word w) = text_span network k w
+value_span network k (tree.string s) = text_span network k s
 
 -- ---- ranges and prefixes
 
@@ -121,34 +121,34 @@ prefix_span a n =
     }
 
 abbrev pub range_span : PlantTree → ComparedType → RangeTree → Span
-range_span plant k (tree.one v) = value_span plant k v
-range_span plant k (tree.between low high) =
-    record { low = (value_span plant k low).low; high = (value_span plant k high).high }
-range_span plant k (tree.prefix a n) = prefix_span a n
+range_span network k (tree.one v) = value_span network k v
+range_span network k (tree.between low high) =
+    record { low = (value_span network k low).low; high = (value_span network k high).high }
+range_span network k (tree.prefix a n) = prefix_span a n
 
 -- a value of the type; two of them in ascending order; for addresses, a prefix of at most 32 bits
 abbrev pub is_range : PlantTree → ComparedType → RangeTree → Bool
-is_range plant k (tree.one v) = is_value k v
-is_range plant k (tree.between low high) =
-    is_value k low && is_value k high && nat_le (value_span plant k low).low (value_span plant k high).high
-is_range plant k (tree.prefix a n) = is_address k && nat_le n 32
+is_range network k (tree.one v) = is_value k v
+is_range network k (tree.between low high) =
+    is_value k low && is_value k high && nat_le (value_span network k low).low (value_span network k high).high
+is_range network k (tree.prefix a n) = is_address k && nat_le n 32
 
 abbrev pub is_range_on_box : PlantTree → ComparedType → RangeTree → Bool
-is_range_on_box plant k (tree.one v) = is_on_box plant k v
-is_range_on_box plant k (tree.between low high) = is_on_box plant k low && is_on_box plant k high
-is_range_on_box plant k (tree.prefix a n) = true
+is_range_on_box network k (tree.one v) = is_on_box network k v
+is_range_on_box network k (tree.between low high) = is_on_box network k low && is_on_box network k high
+is_range_on_box network k (tree.prefix a n) = true
 
 -- the value denotes a number: a name of type iface_index only if the box has such an interface
 abbrev pub has_number : PlantTree → ComparedType → ValueTree → Bool
-has_number plant (Named types.InterfaceIndex) (tree.word w) = is_some (named plant w)
-has_number plant (Named types.InterfaceIndex) (tree.string s) = is_some (named plant s)
-has_number plant _ v = true
+has_number network (Named types.InterfaceIndex) (tree.word w) = is_some (named network w)
+has_number network (Named types.InterfaceIndex) (tree.string s) = is_some (named network s)
+has_number network _ v = true
 
 abbrev pub has_numbers : PlantTree → ComparedType → RangeTree → Bool
-has_numbers plant k (tree.one v) = has_number plant k v
-has_numbers plant k (tree.between low high) = has_number plant k low && has_number plant k high
-has_numbers plant k (tree.prefix a n) = true
+has_numbers network k (tree.one v) = has_number network k v
+has_numbers network k (tree.between low high) = has_number network k low && has_number network k high
+has_numbers network k (tree.prefix a n) = true
 
 -- the numbers that a range denotes, if it is one of the type and denotes any
 abbrev pub numbers_of : PlantTree → ComparedType → RangeTree → Option Span
-numbers_of plant k r = cond (is_range plant k r && has_numbers plant k r) (Some (range_span plant k r)) None
+numbers_of network k r = cond (is_range network k r && has_numbers network k r) (Some (range_span network k r)) None

@@ -19,15 +19,15 @@ const ADDRESS_BITS: u64 = 32;
 
 /// Whether the range is one of the type: a value of it; two values of it in ascending order; or,
 /// for addresses, a prefix of at most 32 bits.
-pub fn is_range(plant: &Plant, kind: ComparedType, range: &ValueRange) -> bool
-    ensures { result ≡ is_range plant.now kind (range_tree range.now) }
+pub fn is_range(network: &Plant, kind: ComparedType, range: &ValueRange) -> bool
+    ensures { result ≡ is_range network.now kind (range_tree range.now) }
 {
     match range {
         ValueRange::One(value) => is_value(kind, value),
         ValueRange::Between(low, high) => {
             is_value(kind, low)
                 && is_value(kind, high)
-                && value_bounds(plant, kind, low).low <= value_bounds(plant, kind, high).high
+                && value_bounds(network, kind, low).low <= value_bounds(network, kind, high).high
         }
         ValueRange::Prefix(_, length) => is_address(kind) && *length <= ADDRESS_BITS,
     }
@@ -35,13 +35,13 @@ pub fn is_range(plant: &Plant, kind: ComparedType, range: &ValueRange) -> bool
 
 /// Whether the interfaces that a range of type iface_index names exist on the box; true for every
 /// other type.
-pub fn is_range_on_box(plant: &Plant, kind: ComparedType, range: &ValueRange) -> bool
-    ensures { result ≡ is_range_on_box plant.now kind (range_tree range.now) }
+pub fn is_range_on_box(network: &Plant, kind: ComparedType, range: &ValueRange) -> bool
+    ensures { result ≡ is_range_on_box network.now kind (range_tree range.now) }
 {
     match range {
-        ValueRange::One(value) => is_on_box(plant, kind, value),
-        ValueRange::Between(low, high) => is_on_box(plant, kind, low)
-            && is_on_box(plant, kind, high),
+        ValueRange::One(value) => is_on_box(network, kind, value),
+        ValueRange::Between(low, high) => is_on_box(network, kind, low)
+            && is_on_box(network, kind, high),
         ValueRange::Prefix(..) => true,
     }
 }
@@ -60,14 +60,14 @@ fn prefix_bounds(address: u32, length: u64) -> Bounds
 }
 
 /// The bounds of the range, in the order in which they are written.
-fn range_bounds(plant: &Plant, kind: ComparedType, range: &ValueRange) -> Bounds
-    ensures { bounds_span result ≡ range_span plant.now kind (range_tree range.now) }
+fn range_bounds(network: &Plant, kind: ComparedType, range: &ValueRange) -> Bounds
+    ensures { bounds_span result ≡ range_span network.now kind (range_tree range.now) }
 {
     match range {
-        ValueRange::One(value) => value_bounds(plant, kind, value),
+        ValueRange::One(value) => value_bounds(network, kind, value),
         ValueRange::Between(low, high) => Bounds {
-            low: value_bounds(plant, kind, low).low,
-            high: value_bounds(plant, kind, high).high,
+            low: value_bounds(network, kind, low).low,
+            high: value_bounds(network, kind, high).high,
         },
         ValueRange::Prefix(address, length) => prefix_bounds(*address, *length),
     }
@@ -75,40 +75,40 @@ fn range_bounds(plant: &Plant, kind: ComparedType, range: &ValueRange) -> Bounds
 
 /// Whether the values of the range denote numbers, which only an unknown interface name of type
 /// iface_index doesn't.
-fn has_numbers(plant: &Plant, kind: ComparedType, range: &ValueRange) -> bool
-    ensures { result ≡ has_numbers plant.now kind (range_tree range.now) }
+fn has_numbers(network: &Plant, kind: ComparedType, range: &ValueRange) -> bool
+    ensures { result ≡ has_numbers network.now kind (range_tree range.now) }
 {
     match range {
-        ValueRange::One(value) => has_number(plant, kind, value),
-        ValueRange::Between(low, high) => has_number(plant, kind, low)
-            && has_number(plant, kind, high),
+        ValueRange::One(value) => has_number(network, kind, value),
+        ValueRange::Between(low, high) => has_number(network, kind, low)
+            && has_number(network, kind, high),
         ValueRange::Prefix(..) => true,
     }
 }
 
 /// The numbers that the range denotes; `None` if it isn't one of the type, or names an interface
 /// index that the box doesn't have.
-pub fn numbers_of(plant: &Plant, kind: ComparedType, range: &ValueRange) -> Option<Interval>
-    ensures { option_map span_of result ≡ numbers_of plant.now kind (range_tree range.now) }
+pub fn numbers_of(network: &Plant, kind: ComparedType, range: &ValueRange) -> Option<Interval>
+    ensures { option_map span_of result ≡ numbers_of network.now kind (range_tree range.now) }
 {
-    if !is_range(plant, kind, range) || !has_numbers(plant, kind, range) {
+    if !is_range(network, kind, range) || !has_numbers(network, kind, range) {
         return None;
     }
-    let bounds = range_bounds(plant, kind, range);
+    let bounds = range_bounds(network, kind, range);
     Interval::new(bounds.low, bounds.high)
 }
 
 /// The numbers that the value denotes: one, or for an interface name that ends in `*` those of all
 /// names with that prefix. They fit the type's width. `None` if it isn't a value of the type, or
 /// names an interface index that the box doesn't have.
-pub fn value_numbers(plant: &Plant, kind: ComparedType, value: &Value) -> Option<Interval>
+pub fn value_numbers(network: &Plant, kind: ComparedType, value: &Value) -> Option<Interval>
     ensures numbers { option_map span_of result
-        ≡ numbers_of plant.now kind (tree.one (value_tree value.now)) }
+        ≡ numbers_of network.now kind (tree.one (value_tree value.now)) }
     ensures fits { IfSome result (λ numbers. numbers.high < 2 ^ compared_type_width kind) }
 {
-    if !is_value(kind, value) || !has_number(plant, kind, value) {
+    if !is_value(kind, value) || !has_number(network, kind, value) {
         return None;
     }
-    let bounds = value_bounds(plant, kind, value);
+    let bounds = value_bounds(network, kind, value);
     Interval::new(bounds.low, bounds.high)
 }

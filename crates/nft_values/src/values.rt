@@ -37,49 +37,49 @@ pub fn is_value(kind: ComparedType, value: &Value) -> bool
 }
 
 /// Whether the number is the index of an interface of the box.
-fn has_index(plant: &Plant, number: u64) -> bool
-    ensures { result ≡ nat_lt number (2 ^ 32) && is_some (name_of plant.now number) }
+fn has_index(network: &Plant, number: u64) -> bool
+    ensures { result ≡ nat_lt number (2 ^ 32) && is_some (name_of network.now number) }
 {
     match u32::try_from(number) {
-        Ok(index) => plant.name(index).is_some(),
+        Ok(index) => network.name(index).is_some(),
         Err(_) => false,
     }
 }
 
 /// Whether the interface that a value of type iface_index names exists on the box; true for every
 /// other type.
-pub fn is_on_box(plant: &Plant, kind: ComparedType, value: &Value) -> bool
-    ensures { result ≡ is_on_box plant.now kind (value_tree value.now) }
+pub fn is_on_box(network: &Plant, kind: ComparedType, value: &Value) -> bool
+    ensures { result ≡ is_on_box network.now kind (value_tree value.now) }
 {
     match (kind, value) {
         (ComparedType::Named(ValueType::InterfaceIndex), Value::Number(number)) => {
-            has_index(plant, *number)
+            has_index(network, *number)
         }
-        _ => has_number(plant, kind, value),
+        _ => has_number(network, kind, value),
     }
 }
 
 /// Whether the value denotes a number: a name of type iface_index only if the box has such an
 /// interface, everything else always.
-pub fn has_number(plant: &Plant, kind: ComparedType, value: &Value) -> bool
-    ensures { result ≡ has_number plant.now kind (value_tree value.now) }
+pub fn has_number(network: &Plant, kind: ComparedType, value: &Value) -> bool
+    ensures { result ≡ has_number network.now kind (value_tree value.now) }
 {
     match (kind, value) {
         (ComparedType::Named(ValueType::InterfaceIndex), Value::Word(name) | Value::String(name)) =>
-            { plant.named(name).is_some() }
+            { network.named(name).is_some() }
         _ => true,
     }
 }
 
 /// The numbers of a word or a string: an interface name, an interface's index, or the type's
 /// symbolic constant. What is no value of the type gives 0.
-fn text_bounds(plant: &Plant, kind: ComparedType, text: &[u8]) -> Bounds
-    ensures span { bounds_span result ≡ text_span plant.now kind text.now }
+fn text_bounds(network: &Plant, kind: ComparedType, text: &[u8]) -> Bounds
+    ensures span { bounds_span result ≡ text_span network.now kind text.now }
     ensures fits { result.high < 2 ^ compared_type_width kind }
 {
     let number = match kind {
         ComparedType::Named(ValueType::InterfaceName) => return name_bounds(text),
-        ComparedType::Named(ValueType::InterfaceIndex) => plant.named(text),
+        ComparedType::Named(ValueType::InterfaceIndex) => network.named(text),
         ComparedType::Named(value_type) => value_type.number_of(text),
         ComparedType::Unnamed(_) => None,
     };
@@ -87,14 +87,14 @@ fn text_bounds(plant: &Plant, kind: ComparedType, text: &[u8]) -> Bounds
 }
 
 /// The numbers of a value; 0 for an unknown interface name of type iface_index.
-pub fn value_bounds(plant: &Plant, kind: ComparedType, value: &Value) -> Bounds
-    ensures span { bounds_span result ≡ value_span plant.now kind (value_tree value.now) }
+pub fn value_bounds(network: &Plant, kind: ComparedType, value: &Value) -> Bounds
+    ensures span { bounds_span result ≡ value_span network.now kind (value_tree value.now) }
     ensures fits { is_value kind (value_tree value.now) ≡ true
         → result.high < 2 ^ compared_type_width kind }
 {
     match value {
         Value::Number(number) => one_number(u128::from(*number)),
         Value::Address(address) => one_number(u128::from(*address)),
-        Value::Word(text) | Value::String(text) => text_bounds(plant, kind, text),
+        Value::Word(text) | Value::String(text) => text_bounds(network, kind, text),
     }
 }

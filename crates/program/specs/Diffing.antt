@@ -16,7 +16,7 @@ text_of filter = option_map (λ t. t.now) filter
 -- call follows
 abbrev pub Tells : {I O : Type 0} → Text → Text → Text → Option Text → List (Call I O) → Status → Type 0
 Tells old new box filter (diff inputs answer ∷ []) status =
-    (inputs.old.now ≡ old) × (inputs.new.now ≡ new) × (inputs.plant.now ≡ box)
+    (inputs.old.now ≡ old) × (inputs.new.now ≡ new) × (inputs.network.now ≡ box)
     × (text_of inputs.assumed ≡ filter) × (status ≡ of_diff answer)
 Tells _ _ _ _ _ _ = ⊥
 
@@ -28,5 +28,5 @@ ReadsFilter (Some path) Next calls status = Reads path (λ filter. Next (Some fi
 
 -- OLD, NEW, BOX and FILTER are read, in this order, and it is told what the rulesets do differently
 abbrev pub Diffs : {I O : Type 0} → DiffTask → List (Call I O) → Status → Type 0
-Diffs t calls status = Reads t.paths.old.now (λ old. Reads t.paths.new.now (λ new. Reads t.paths.plant.now (λ box.
+Diffs t calls status = Reads t.paths.old.now (λ old. Reads t.paths.new.now (λ new. Reads t.paths.network.now (λ box.
     ReadsFilter (name_of_file t.assumed) (Tells old new box)))) calls status

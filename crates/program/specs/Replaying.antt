@@ -74,7 +74,7 @@ abbrev pub standard_output : Text
 standard_output = codes "/dev/stdout"
 
 abbrev pub inputs_of : ReplayPaths → List Text
-inputs_of paths = paths.rules.now ∷ paths.plant.now ∷ paths.input.now ∷ []
+inputs_of paths = paths.rules.now ∷ paths.network.now ∷ paths.input.now ∷ []
 
 -- the files that OUT must not be: standard output is one of them if the report goes there
 abbrev pub others_of : Option Text → ReplayPaths → List Text
@@ -117,7 +117,7 @@ Creates _ _ _ _ _ = ⊥
 -- of the trace
 abbrev pub Gives : ReplayTask → RandomState → Text → Text → RunInputs → Type 0
 Gives task keys rules box inputs = (inputs.hasher ≡ keys) × (inputs.rules.now ≡ rules)
-    × (inputs.plant.now ≡ box) × (inputs.trace ≡ task.trace)
+    × (inputs.network.now ≡ box) × (inputs.trace ≡ task.trace)
 
 -- keys are drawn; where the system gives none, no file is created
 abbrev pub Draws : {I O : Type 0} → ReplayTask → Text → Text → I → List (Call I O) → Status → Type 0
@@ -140,9 +140,9 @@ Opens _ _ _ _ _ = ⊥
 -- BOX is read
 abbrev pub ReadsBox : {I O : Type 0} → ReplayTask → Text → List (Call I O) → Status → Type 0
 ReadsBox task rules (read path (Err error) ∷ []) status =
-    (path ≡ task.paths.plant.now) × (status ≡ of_error error)
+    (path ≡ task.paths.network.now) × (status ≡ of_error error)
 ReadsBox task rules (read path (Ok box) ∷ calls) status =
-    (path ≡ task.paths.plant.now) × Opens task rules box calls status
+    (path ≡ task.paths.network.now) × Opens task rules box calls status
 ReadsBox _ _ _ _ = ⊥
 
 -- RULES is read

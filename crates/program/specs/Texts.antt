@@ -14,4 +14,4 @@ Reads _ _ _ _ = ⊥
 -- RULES is read, then BOX, and the next calls get both texts
 abbrev pub ReadsTexts : {I O : Type 0} → CheckPaths → (Text → Text → List (Call I O) → Status → Type 0)
     → List (Call I O) → Status → Type 0
-ReadsTexts t Next calls status = Reads t.rules.now (λ rules. Reads t.plant.now (Next rules)) calls status
+ReadsTexts t Next calls status = Reads t.rules.now (λ rules. Reads t.network.now (Next rules)) calls status

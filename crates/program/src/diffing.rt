@@ -18,7 +18,7 @@ pub struct DiffInputs<'a> {
     /// The text of the ruleset NEW.
     pub new: &'a [u8],
     /// The text of the box file.
-    pub plant: &'a [u8],
+    pub network: &'a [u8],
     /// The text of the ruleset FILTER, where there is one.
     pub assumed: Option<&'a [u8]>,
 }
@@ -74,8 +74,8 @@ fn try_diff<H: Host>(host: &mut H, task: &DiffTask<'_>) -> Result<bool, Status>
 {
     let old = host.read(task.paths.old)?;
     let new = host.read(task.paths.new)?;
-    let plant = host.read(task.paths.plant)?;
-    compare(host, &old, &new, &plant, task.assumed)
+    let network = host.read(task.paths.network)?;
+    compare(host, &old, &new, &network, task.assumed)
 }
 
 /// Reads FILTER, if there is one, and compares.
@@ -83,33 +83,33 @@ fn compare<H: Host>(
     host: &mut H,
     old: &[u8],
     new: &[u8],
-    plant: &[u8],
+    network: &[u8],
     path: Option<&str>,
 ) -> Result<bool, Status>
     ensures { MakesCalls H.happens host.old host.new (λ calls. ReadsFilter (name_of_file path.entry)
-        (Tells old.now new.now plant.now) calls (diff_status result)) }
+        (Tells old.now new.now network.now) calls (diff_status result)) }
 {
     let Some(path) = path else {
-        return tell(host, old, new, plant, None);
+        return tell(host, old, new, network, None);
     };
     let filter = host.read(path)?;
-    tell(host, old, new, plant, Some(&filter))
+    tell(host, old, new, network, Some(&filter))
 }
 
 fn tell<H: Host>(
     host: &mut H,
     old: &[u8],
     new: &[u8],
-    plant: &[u8],
+    network: &[u8],
     assumed: Option<&[u8]>,
 ) -> Result<bool, Status>
     ensures { MakesCalls H.happens host.old host.new (λ calls.
-        Tells old.now new.now plant.now (text_of assumed.entry) calls (diff_status result)) }
+        Tells old.now new.now network.now (text_of assumed.entry) calls (diff_status result)) }
 {
     let inputs = DiffInputs {
         old,
         new,
-        plant,
+        network,
         assumed,
     };
     Ok(host.diff(inputs)?)

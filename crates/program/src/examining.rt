@@ -26,8 +26,8 @@ fn try_examine<H: Host>(host: &mut H, texts: &CheckPaths<'_>) -> Result<(), Stat
         Examines texts.now calls (check_status result)) }
 {
     let rules = host.read(texts.rules)?;
-    let plant = host.read(texts.plant)?;
-    let counts = host.judge(rules, &plant)?;
+    let network = host.read(texts.network)?;
+    let counts = host.judge(rules, &network)?;
     host.print_accepted(counts)?;
     Ok(())
 }

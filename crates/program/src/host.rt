@@ -90,8 +90,8 @@ pub trait Host {
 
     /// Checks a ruleset, whose text the host may keep, for a box, and counts its tables, chains and
     /// rules.
-    fn judge(&mut self, rules: Vec<u8>, plant: &[u8]) -> Result<Counts, RunFault>
-        ensures { happens self.old (judge rules.items plant.now result) self.new };
+    fn judge(&mut self, rules: Vec<u8>, network: &[u8]) -> Result<Counts, RunFault>
+        ensures { happens self.old (judge rules.items network.now result) self.new };
 
     /// Prints the line of an accepted ruleset to standard output.
     fn print_accepted(&mut self, counts: Counts) -> io::Result<()>
@@ -100,8 +100,8 @@ pub trait Host {
     /// Checks a ruleset, whose text the host may keep, for a box, and prints to standard output of
     /// each rule whether some packet can meet it, and of each base chain whether its policy can apply;
     /// with `sets` also which packets reach and meet each rule. Returns whether each rule can be met.
-    fn reach(&mut self, rules: Vec<u8>, plant: &[u8], sets: bool) -> Result<bool, ReachFault>
-        ensures { happens self.old (reach rules.items plant.now sets result) self.new };
+    fn reach(&mut self, rules: Vec<u8>, network: &[u8], sets: bool) -> Result<bool, ReachFault>
+        ensures { happens self.old (reach rules.items network.now sets result) self.new };
 
     /// Checks two rulesets, and a third one whose filter chain accepts the packets in question, where
     /// there is one, each for a box, and prints to standard output what the first two do differently

@@ -31,6 +31,6 @@ fn try_reach<H: Host>(host: &mut H, task: &ReachTask<'_>) -> Result<bool, Status
         Reaches task.now calls (reach_status result)) }
 {
     let rules = host.read(task.texts.rules)?;
-    let plant = host.read(task.texts.plant)?;
-    Ok(host.reach(rules, &plant, task.sets)?)
+    let network = host.read(task.texts.network)?;
+    Ok(host.reach(rules, &network, task.sets)?)
 }

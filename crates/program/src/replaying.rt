@@ -42,8 +42,8 @@ fn try_replay<H: Host>(host: &mut H, task: &ReplayTask<'_>) -> Result<bool, Stat
 {
     let paths = &task.paths;
     let rules = host.read(paths.rules)?;
-    let plant = host.read(paths.plant)?;
-    replay_texts(host, task, &rules, &plant)
+    let network = host.read(paths.network)?;
+    replay_texts(host, task, &rules, &network)
 }
 
 /// Opens IN, and replays it if OUT and FILE may be written.
@@ -51,10 +51,10 @@ fn replay_texts<H: Host>(
     host: &mut H,
     task: &ReplayTask<'_>,
     rules: &[u8],
-    plant: &[u8],
+    network: &[u8],
 ) -> Result<bool, Status>
     ensures { MakesCalls H.happens host.old host.new (λ calls.
-        Opens task.now rules.now plant.now calls (replay_status result)) }
+        Opens task.now rules.now network.now calls (replay_status result)) }
 {
     let input = host.open(task.paths.input)?;
     check_output(host, task)?;
@@ -63,7 +63,7 @@ fn replay_texts<H: Host>(
     let inputs = RunInputs {
         hasher,
         rules,
-        plant,
+        network,
         trace: task.trace,
     };
     play(host, task, inputs, input)
@@ -96,11 +96,11 @@ fn check_output<H: Host>(host: &mut H, task: &ReplayTask<'_>) -> Result<(), Stat
         (others_of (name_of_file task.now.report) task.now.paths) calls result) }
 {
     let paths = &task.paths;
-    let inputs = [paths.rules, paths.plant, paths.input];
+    let inputs = [paths.rules, paths.network, paths.input];
     match task.report {
         Some(_) => check_output_path(host, Status::SameFile, paths.output, &inputs),
         None => {
-            let others = [paths.rules, paths.plant, paths.input, STANDARD_OUTPUT];
+            let others = [paths.rules, paths.network, paths.input, STANDARD_OUTPUT];
             check_output_path(host, Status::SameFile, paths.output, &others)
         }
     }
@@ -115,7 +115,7 @@ fn check_report<H: Host>(host: &mut H, task: &ReplayTask<'_>) -> Result<(), Stat
         return Ok(());
     };
     let paths = &task.paths;
-    let others = [paths.rules, paths.plant, paths.input, paths.output];
+    let others = [paths.rules, paths.network, paths.input, paths.output];
     check_output_path(host, Status::SameReport, file, &others)
 }
 

@@ -16,7 +16,7 @@ pub struct RunInputs<'a> {
     /// The text of the ruleset.
     pub rules: &'a [u8],
     /// The text of the box file.
-    pub plant: &'a [u8],
+    pub network: &'a [u8],
     /// Whether the report has each verdict and each outcome.
     pub trace: bool,
 }
@@ -31,7 +31,7 @@ pub fn run_with_progress<'b, R: Clock + Eprint + AllocGlobal, T: Read, W: Write,
     sent: &mut Counted<W>,
     report: &mut Counted<W2>,
 ) -> Result<bool, RunFault>
-    ensures { UsesDevices inputs.entry.rules.now inputs.entry.plant.now inputs.entry.trace
+    ensures { UsesDevices inputs.entry.rules.now inputs.entry.network.now inputs.entry.trace
         (device (capture_bytes T.remaining) capture.old) (device (capture_bytes T.remaining) capture.new)
         (device W.contents sent.old) (device W.contents sent.new)
         (device W2.contents report.old) (device W2.contents report.new) result }
@@ -41,7 +41,7 @@ pub fn run_with_progress<'b, R: Clock + Eprint + AllocGlobal, T: Read, W: Write,
         rt.alloc(),
         inputs.hasher,
         inputs.rules,
-        inputs.plant,
+        inputs.network,
         capture,
         sent,
         report,

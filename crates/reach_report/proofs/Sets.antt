@@ -38,14 +38,14 @@ pub ends_as : (d : DiagramsView) (list items : List (Case ChainEnd)) → list �
     → All (λ e. IsSet d e.set) items → All (λ e. IsSet d e.set) list
 ends_as d list items same all = subst (λ es. All (λ e. IsSet d e.set) es) (sym same) all
 
-module _ (plant : PlantTree) (tables : List TableTree) where
-  of_base : (d : DiagramsView) (b : BaseChain) (sets : BaseSets) → AreBaseSets plant tables d b sets → IsOfSets d sets
+module _ (network : PlantTree) (tables : List TableTree) where
+  of_base : (d : DiagramsView) (b : BaseChain) (sets : BaseSets) → AreBaseSets network tables d b sets → IsOfSets d sets
   of_base d b sets are = record {
     reached = λ c n. (are.on_ways.reached c n).is_set;
     met = λ c n. (are.on_ways.met c n).is_set;
     ends = cases_all d sets.ends.items are.on_ways.are;
   }
 
-  pub has_sets : (sets : ReachSets) → AreReachSets plant tables sets → HasSets sets
-  has_sets sets are = zip_all (AreBaseSets plant tables sets.diagrams) (IsOfSets sets.diagrams)
+  pub has_sets : (sets : ReachSets) → AreReachSets network tables sets → HasSets sets
+  has_sets sets are = zip_all (AreBaseSets network tables sets.diagrams) (IsOfSets sets.diagrams)
       (of_base sets.diagrams) (run_chains tables) sets.bases.items are

@@ -24,18 +24,18 @@ is_met _ = false
 abbrev pub are_met : List RuleReach → Bool
 are_met answers = list_all (λ r. is_met r.answer) answers
 
-module _ (plant : PlantTree) (tables : List TableTree) where
+module _ (network : PlantTree) (tables : List TableTree) where
   -- these are the answers for all rules and policies of the ruleset on the box
   pub record AreAnswers (reach : Reach) : Type 0 where
     pub of_rules : map (λ r. r.rule) reach.rules.items ≡ rules_of tables
-    pub right : All (λ r. IsAnswer plant tables (run_chains tables) r.rule r.answer) reach.rules.items
+    pub right : All (λ r. IsAnswer network tables (run_chains tables) r.rule r.answer) reach.rules.items
     pub of_policies : map (λ p. p.chain) reach.policies.items ≡ map (λ b. b.number) (run_chains tables)
-    pub apply : All (IsPolicyReach plant tables (run_chains tables)) reach.policies.items
+    pub apply : All (IsPolicyReach network tables (run_chains tables)) reach.policies.items
 
   -- why each of the rules isn't met that isn't, by these answers
   pub record AreReasons (answers : List RuleReach) (unmet : List Unmet) : Type 0 where
     pub of_unmet : map (λ u. u.rule) unmet ≡ map (λ r. r.rule) (filter is_unmet answers)
-    pub why : All (IsUnmet plant tables (run_chains tables)) unmet
+    pub why : All (IsUnmet network tables (run_chains tables)) unmet
 
   -- the lines tell the answers, and why rules aren't met, with sets of packets below each, if they are wanted; by
   -- the answers each rule can be met or not

@@ -37,7 +37,7 @@ pub fn report_of(
     limit: u32,
     sets: bool,
 ) -> Result<ReachReport, ReachError>
-    ensures { IfOk result (Reports checked.now.plant checked.now.rules sets) }
+    ensures { IfOk result (Reports checked.now.network checked.now.rules sets) }
 {
     let mut found = reach_sets(alloc, checked, limit)?;
     let reach = found.reach(alloc, checked)?;
@@ -55,10 +55,10 @@ fn told(
     unmet: &[Unmet],
     texts: &SetTexts<'_>,
 ) -> Result<ReachReport, AllocError>
-    requires answers { AreAnswers checked.now.plant checked.now.rules reach.now }
-    requires reasons { AreReasons checked.now.plant checked.now.rules reach.now.rules.items unmet.now }
+    requires answers { AreAnswers checked.now.network checked.now.rules reach.now }
+    requires reasons { AreReasons checked.now.network checked.now.rules reach.now.rules.items unmet.now }
     requires sets { HasSets texts.now.sets.now }
-    ensures { IfOk result (Reports checked.now.plant checked.now.rules texts.now.is_wanted) }
+    ensures { IfOk result (Reports checked.now.network checked.now.rules texts.now.is_wanted) }
 {
     let tree = checked.tree();
     let rule_texts = told_rules(alloc, &reach.rules, unmet, texts)?;

@@ -30,18 +30,18 @@ test : (b : Bool) → Decided (b ≡ true)
 test true = inl refl
 test false = inr (λ e. cc)
 
-module _ (tables : List TableTree) (plant : PlantTree) where
+module _ (tables : List TableTree) (network : PlantTree) where
   abbrev Found : Type 0
-  Found = (fault : CheckFault) × LeastFault fault tables plant
+  Found = (fault : CheckFault) × LeastFault fault tables network
 
   -- a least fault, or none of those below a number
   abbrev SoFar : ℕ → Type 0
-  SoFar n = Found ⊎ HasNone 1 n tables plant
+  SoFar n = Found ⊎ HasNone 1 n tables network
 
-  step : (fault : CheckFault) → Decided (Wrong fault tables plant) → SoFar (fault_number fault) → SoFar (fault_number fault + 1)
+  step : (fault : CheckFault) → Decided (Wrong fault tables network) → SoFar (fault_number fault) → SoFar (fault_number fault + 1)
   step fault decided (inl found) = inl found
-  step fault (inl wrong) (inr none) = inl (fault, least tables plant fault none wrong)
-  step fault (inr not_it) (inr none) = inr (and_then tables plant 1 (fault_number fault) (fault_number fault + 1) none (without tables plant fault not_it))
+  step fault (inl wrong) (inr none) = inl (fault, least tables network fault none wrong)
+  step fault (inr not_it) (inr none) = inr (and_then tables network 1 (fault_number fault) (fault_number fault + 1) none (without tables network fault not_it))
 
   start : SoFar 1
   start = inr (λ fault from to wrong. omega (arith, from, to))
@@ -52,7 +52,7 @@ module _ (tables : List TableTree) (plant : PlantTree) where
   paths laws (inr none) = by_cycles (laws.cycles tables)
     where
       by_cycles : Decided (Cycles tables) → SoFar 7
-      by_cycles (inl wrong) = inl (faults.Cycle, least tables plant faults.Cycle none wrong)
+      by_cycles (inl wrong) = inl (faults.Cycle, least tables network faults.Cycle none wrong)
       by_cycles (inr acyclic) =
           step faults.TooCostly (laws.costly tables acyclic) (step faults.TooDeep (laws.deep tables acyclic) (step faults.Cycle (inr acyclic) (inr none)))
 
@@ -68,7 +68,7 @@ module _ (tables : List TableTree) (plant : PlantTree) where
 
   up_to_values : Laws → SoFar 10
   up_to_values laws =
-      step faults.WrongValue (test (list_any (has_wrong_value plant) tables))
+      step faults.WrongValue (test (list_any (has_wrong_value network) tables))
       (step faults.TypeMismatch (test (list_any table_mismatches tables))
       (step faults.BaseChainCalled (test (list_any jumps_to_base_chain tables)) (paths laws (first_three laws))))
 
@@ -76,14 +76,14 @@ module _ (tables : List TableTree) (plant : PlantTree) where
   all laws =
       step faults.TooLarge (test (too_large tables))
       (step faults.StatementAfterVerdict (test (list_any has_unreachable_statement tables))
-      (step faults.NoSuchInterface (test (list_any (names_unknown_interface plant) tables))
-      (step faults.Contradiction (test (list_any (has_contradiction plant) tables))
+      (step faults.NoSuchInterface (test (list_any (names_unknown_interface network) tables))
+      (step faults.Contradiction (test (list_any (has_contradiction network) tables))
       (step faults.MisplacedNatChain (test (list_any has_misplaced_chain tables)) (places laws (up_to_values laws))))))
 
 -- well formed, or with a least fault
-pub judged : Laws → (tables : List TableTree) (plant : PlantTree) → WellFormed tables plant ⊎ ((fault : CheckFault) × LeastFault fault tables plant)
-judged laws tables plant = by_all (all tables plant laws)
+pub judged : Laws → (tables : List TableTree) (network : PlantTree) → WellFormed tables network ⊎ ((fault : CheckFault) × LeastFault fault tables network)
+judged laws tables network = by_all (all tables network laws)
   where
-    by_all : SoFar tables plant 16 → WellFormed tables plant ⊎ ((fault : CheckFault) × LeastFault fault tables plant)
+    by_all : SoFar tables network 16 → WellFormed tables network ⊎ ((fault : CheckFault) × LeastFault fault tables network)
     by_all (inl found) = inr found
-    by_all (inr none) = inl (well_formed tables plant none)
+    by_all (inr none) = inl (well_formed tables network none)

@@ -33,9 +33,9 @@ none_past : {A : Type 0} (xs : List A) (i : ℕ) → slice_get xs i ≡ None →
 none_past xs i at =
     elim (slice_get_cases xs i).1 [ inl h ↦ (let is = h.2 in absurd cc) | inr h ↦ h.0 ]
 
-pub is_checked : (tables : List TableTree) (plant : PlantTree) (names : List ItemNames) (found : Findings) → WellFormed tables plant
-    → names ≡ map names_in tables → AreFindings tables found → IsChecked tables plant names found.costs.items
-is_checked tables plant names found fine named known = record {
+pub is_checked : (tables : List TableTree) (network : PlantTree) (names : List ItemNames) (found : Findings) → WellFormed tables network
+    → names ≡ map names_in tables → AreFindings tables found → IsChecked tables network names found.costs.items
+is_checked tables network names found fine named known = record {
   fine = fine;
   named = named;
   costs = record {
@@ -92,7 +92,7 @@ tables_le f (t ∷ ts) (ks ∷ kss) each =
     let there = sum_by-cons f t ts in
     omega (arith, here, there, each 0 t refl, tables_le f ts kss (λ i u at. each (suc i) u at))
 
-module _ (tables : List TableTree) (plant : PlantTree) (names : List ItemNames) (costs : List (Vec ℕ Global)) (k : IsChecked tables plant names costs) where
+module _ (tables : List TableTree) (network : PlantTree) (names : List ItemNames) (costs : List (Vec ℕ Global)) (k : IsChecked tables network names costs) where
   abbrev cost : TableTree → Caller → ℕ
   cost = let has = k.has_costs in has.0
 

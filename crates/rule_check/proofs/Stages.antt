@@ -21,15 +21,15 @@ at_some {A = A} o P Q x is h = subst (λ (p : Option A). MatchOption p P Q) is h
 
 -- ---- the stages
 
-module _ (tables : List TableTree) (plant : PlantTree) where
+module _ (tables : List TableTree) (network : PlantTree) where
   pub after_names : (names : List TableTree) (answer : Option CheckFault) → (DuplicateName tables → ⊥) → names
-      ≡ tables → answer ≡ None → IsLeastFaultIn 2 4 names plant answer → HasNone 1 4 tables plant
+      ≡ tables → answer ≡ None → IsLeastFaultIn 2 4 names network answer → HasNone 1 4 tables network
   after_names names answer apart same is is_least =
-      none_reported tables plant 2 4 answer (without tables plant faults.DuplicateName apart) is
-      (subst (λ (ts : List TableTree). IsLeastFaultIn 2 4 ts plant answer) same is_least)
+      none_reported tables network 2 4 answer (without tables network faults.DuplicateName apart) is
+      (subst (λ (ts : List TableTree). IsLeastFaultIn 2 4 ts network answer) same is_least)
 
   pub findings_of : (names : List TableTree) (found : Findings) → names ≡ tables → AreFindings names found → AreFindings tables found
   findings_of names found same h = subst (λ (ts : List TableTree). AreFindings ts found) same h
 
-  pub after_cycles : (found : Findings) → HasNone 1 4 tables plant → AreFindings tables found → HasNone 1 5 tables plant
-  after_cycles found none known = more tables plant 1 faults.Cycle none known.acyclic
+  pub after_cycles : (found : Findings) → HasNone 1 4 tables network → AreFindings tables found → HasNone 1 5 tables network
+  after_cycles found none known = more tables network 1 faults.Cycle none known.acyclic

@@ -16,12 +16,12 @@ use Rattle.rule_check.specs.declared.fault.CheckError.TheVariants.{Refused, Memo
 -- a ruleset, and the box that it was checked for
 pub record CheckedTree : Type 0 where
   pub rules : List TableTree
-  pub plant : PlantTree
+  pub network : PlantTree
 
 -- a refusal has the ruleset's least fault; failed allocations say nothing about it
 abbrev pub IsCheckRefusal : List TableTree → PlantTree → CheckError → Type 0
-IsCheckRefusal tables plant (Refused fault) = LeastFault fault tables plant
-IsCheckRefusal tables plant Memory = Unit {0}
+IsCheckRefusal tables network (Refused fault) = LeastFault fault tables network
+IsCheckRefusal tables network Memory = Unit {0}
 
 -- ---- costs and depths
 
@@ -53,9 +53,9 @@ rows vecs = map (λ row. row.items) vecs
 
 -- a ruleset is well formed on a box, these are its names and costs, its chains have depths, and its cost
 -- equations have a solution
-pub record IsChecked (tables : List TableTree) (plant : PlantTree) (names : List ItemNames)
+pub record IsChecked (tables : List TableTree) (network : PlantTree) (names : List ItemNames)
     (its_costs : List (Vec ℕ Global)) : Type 0 where
-  pub fine : WellFormed tables plant
+  pub fine : WellFormed tables network
   pub named : names ≡ map names_in tables
   pub costs : AreRulesetCosts tables (rows its_costs)
   pub has_depths : (depths : List (List ℕ)) × AreRulesetDepths tables depths

@@ -15,21 +15,21 @@ use Rattle.rule_check.specs.declared.fault.CheckFault.TheVariants as faults
 
 -- the ruleset has this fault on the box
 abbrev pub Wrong : CheckFault → List TableTree → PlantTree → Type 0
-Wrong faults.DuplicateName tables plant = DuplicateName tables
-Wrong faults.NoSuchChain tables plant = list_any jumps_to_unknown_chain tables ≡ true
-Wrong faults.NoSuchSet tables plant = list_any refers_to_unknown_set tables ≡ true
-Wrong faults.Cycle tables plant = Cycles tables
-Wrong faults.TooDeep tables plant = TooDeep tables
-Wrong faults.TooCostly tables plant = TooCostly tables
-Wrong faults.BaseChainCalled tables plant = list_any jumps_to_base_chain tables ≡ true
-Wrong faults.TypeMismatch tables plant = list_any table_mismatches tables ≡ true
-Wrong faults.WrongValue tables plant = list_any (has_wrong_value plant) tables ≡ true
-Wrong faults.MisplacedNat tables plant = MisplacedNat tables
-Wrong faults.MisplacedNatChain tables plant = list_any has_misplaced_chain tables ≡ true
-Wrong faults.Contradiction tables plant = list_any (has_contradiction plant) tables ≡ true
-Wrong faults.NoSuchInterface tables plant = list_any (names_unknown_interface plant) tables ≡ true
-Wrong faults.StatementAfterVerdict tables plant = list_any has_unreachable_statement tables ≡ true
-Wrong faults.TooLarge tables plant = too_large tables ≡ true
+Wrong faults.DuplicateName tables network = DuplicateName tables
+Wrong faults.NoSuchChain tables network = list_any jumps_to_unknown_chain tables ≡ true
+Wrong faults.NoSuchSet tables network = list_any refers_to_unknown_set tables ≡ true
+Wrong faults.Cycle tables network = Cycles tables
+Wrong faults.TooDeep tables network = TooDeep tables
+Wrong faults.TooCostly tables network = TooCostly tables
+Wrong faults.BaseChainCalled tables network = list_any jumps_to_base_chain tables ≡ true
+Wrong faults.TypeMismatch tables network = list_any table_mismatches tables ≡ true
+Wrong faults.WrongValue tables network = list_any (has_wrong_value network) tables ≡ true
+Wrong faults.MisplacedNat tables network = MisplacedNat tables
+Wrong faults.MisplacedNatChain tables network = list_any has_misplaced_chain tables ≡ true
+Wrong faults.Contradiction tables network = list_any (has_contradiction network) tables ≡ true
+Wrong faults.NoSuchInterface tables network = list_any (names_unknown_interface network) tables ≡ true
+Wrong faults.StatementAfterVerdict tables network = list_any has_unreachable_statement tables ≡ true
+Wrong faults.TooLarge tables network = too_large tables ≡ true
 
 -- N01 to N15
 abbrev pub fault_number : CheckFault → ℕ
@@ -50,10 +50,10 @@ fault_number faults.StatementAfterVerdict = 14
 fault_number faults.TooLarge = 15
 
 -- the ruleset's fault with the lowest number
-pub record LeastFault (fault : CheckFault) (tables : List TableTree) (plant : PlantTree) : Type 0 where
-  pub wrong : Wrong fault tables plant
-  pub least : (other : CheckFault) → Wrong other tables plant → fault_number fault ≤ fault_number other
+pub record LeastFault (fault : CheckFault) (tables : List TableTree) (network : PlantTree) : Type 0 where
+  pub wrong : Wrong fault tables network
+  pub least : (other : CheckFault) → Wrong other tables network → fault_number fault ≤ fault_number other
 
 -- the ruleset has no fault
 abbrev pub WellFormed : List TableTree → PlantTree → Type 0
-WellFormed tables plant = (fault : CheckFault) → Wrong fault tables plant → ⊥
+WellFormed tables network = (fault : CheckFault) → Wrong fault tables network → ⊥

@@ -26,13 +26,13 @@ pub(crate) fn analyze(
     alloc: Global,
     names: &[TableNames],
     tree: &Ruleset,
-    plant: &Plant,
+    network: &Plant,
 ) -> Result<Findings, CheckError>
     requires names { names.now ≡ tables_of tree.now }
     requires apart { DuplicateName (tables_of tree.now) → ⊥ }
-    ensures fine { IfOk result (λ found. WellFormed (tables_of tree.now) plant.now) }
+    ensures fine { IfOk result (λ found. WellFormed (tables_of tree.now) network.now) }
     ensures found { IfOk result (λ found. AreFindings (tables_of tree.now) found) }
-    ensures refused { IfErr result (λ error. IsCheckRefusal (tables_of tree.now) plant.now error) }
+    ensures refused { IfErr result (λ error. IsCheckRefusal (tables_of tree.now) network.now error) }
 {
     if let Some(fault) = fault_of_names(names) {
         return Err(CheckError::Refused(fault));
@@ -40,7 +40,7 @@ pub(crate) fn analyze(
     let Some(found) = rule_paths::analyze(alloc, names)? else {
         return Err(CheckError::Refused(CheckFault::Cycle));
     };
-    match fault_of_rules(alloc, names, &found, tree, plant)? {
+    match fault_of_rules(alloc, names, &found, tree, network)? {
         Some(fault) => Err(CheckError::Refused(fault)),
         None => Ok(found),
     }
@@ -48,7 +48,7 @@ pub(crate) fn analyze(
 
 /// N02, N03.
 fn fault_of_names(names: &[TableNames]) -> Option<CheckFault>
-    ensures { (plant : PlantTree) → IsLeastFaultIn 2 4 names.now plant result }
+    ensures { (network : PlantTree) → IsLeastFaultIn 2 4 names.now network result }
 {
     if jumps_to_unknown_chain(names) {
         return Some(CheckFault::NoSuchChain);
@@ -65,19 +65,19 @@ fn fault_of_rules(
     names: &[TableNames],
     found: &Findings,
     tree: &Ruleset,
-    plant: &Plant,
+    network: &Plant,
 ) -> Result<Option<CheckFault>, AllocError>
     requires names { names.now ≡ tables_of tree.now }
     requires found { AreFindings (tables_of tree.now) found.now }
-    ensures { IfOk result (λ fault. IsLeastFaultIn 5 16 (tables_of tree.now) plant.now fault) }
+    ensures { IfOk result (λ fault. IsLeastFaultIn 5 16 (tables_of tree.now) network.now fault) }
 {
-    if let Some(fault) = fault_of_chains(names, found, tree, plant) {
+    if let Some(fault) = fault_of_chains(names, found, tree, network) {
         return Ok(Some(fault));
     }
-    if has_contradiction(alloc, plant, tree)? {
+    if has_contradiction(alloc, network, tree)? {
         return Ok(Some(CheckFault::Contradiction));
     }
-    Ok(last_fault(tree, plant))
+    Ok(last_fault(tree, network))
 }
 
 /// N05 to N11.
@@ -85,11 +85,11 @@ fn fault_of_chains(
     names: &[TableNames],
     found: &Findings,
     tree: &Ruleset,
-    plant: &Plant,
+    network: &Plant,
 ) -> Option<CheckFault>
     requires names { names.now ≡ tables_of tree.now }
     requires found { AreFindings (tables_of tree.now) found.now }
-    ensures { IsLeastFaultIn 5 12 (tables_of tree.now) plant.now result }
+    ensures { IsLeastFaultIn 5 12 (tables_of tree.now) network.now result }
 {
     if found.is_too_deep {
         return Some(CheckFault::TooDeep);
@@ -103,7 +103,7 @@ fn fault_of_chains(
     if has_type_mismatch(names) {
         return Some(CheckFault::TypeMismatch);
     }
-    if has_wrong_value(plant, tree) {
+    if has_wrong_value(network, tree) {
         return Some(CheckFault::WrongValue);
     }
     if found.misplaces_nat {
@@ -116,10 +116,10 @@ fn fault_of_chains(
 }
 
 /// N13 to N15.
-fn last_fault(tree: &Ruleset, plant: &Plant) -> Option<CheckFault>
-    ensures { IsLeastFaultIn 13 16 (tables_of tree.now) plant.now result }
+fn last_fault(tree: &Ruleset, network: &Plant) -> Option<CheckFault>
+    ensures { IsLeastFaultIn 13 16 (tables_of tree.now) network.now result }
 {
-    if names_unknown_interface(plant, tree) {
+    if names_unknown_interface(network, tree) {
         return Some(CheckFault::NoSuchInterface);
     }
     if has_unreachable_statement(tree) {

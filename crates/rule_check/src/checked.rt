@@ -22,7 +22,7 @@ use std::marker::Model;
 /// to make one. It keeps its names and the costs of its chains.
 pub struct Checked {
     tree: Ruleset,
-    plant: Plant,
+    network: Plant,
     names: RulesetNames,
     /// By table and chain.
     costs: Vec<Vec<u64>>,
@@ -33,7 +33,7 @@ impl Drop for Checked {
     fn drop(self) {
         let Checked {
             tree: _,
-            plant: _,
+            network: _,
             names: _,
             costs: _,
         } = self;
@@ -46,9 +46,9 @@ impl Model for Checked {
 
     ghost Value = { CheckedTree };
 
-    ghost view = { λ c. record { rules = tables_of c.tree; plant = c.plant } };
+    ghost view = { λ c. record { rules = tables_of c.tree; network = c.network } };
 
-    ghost invariant = { λ c. IsChecked (tables_of c.tree) c.plant c.names c.costs.items };
+    ghost invariant = { λ c. IsChecked (tables_of c.tree) c.network c.names c.costs.items };
 }
 
 /// Checks a ruleset for a box (nft(8), and the limits of this profile). The arguments are dropped
@@ -58,16 +58,16 @@ impl Model for Checked {
 ///
 /// `Refused` with the fault of the lowest number if the ruleset has any, `Memory` if an allocation
 /// fails.
-pub fn check(alloc: Global, tree: Ruleset, plant: Plant) -> Result<Checked, CheckError>
+pub fn check(alloc: Global, tree: Ruleset, network: Plant) -> Result<Checked, CheckError>
     ensures same { IfOk result (λ checked. checked
-        ≡ record { rules = tables_of tree; plant = plant }) }
-    ensures fine { IfOk result (λ checked. WellFormed (tables_of tree) plant) }
-    ensures refused { IfErr result (λ error. IsCheckRefusal (tables_of tree) plant error) }
+        ≡ record { rules = tables_of tree; network = network }) }
+    ensures fine { IfOk result (λ checked. WellFormed (tables_of tree) network) }
+    ensures refused { IfErr result (λ error. IsCheckRefusal (tables_of tree) network error) }
 {
-    let (names, found) = judge(alloc, &tree, &plant)?;
+    let (names, found) = judge(alloc, &tree, &network)?;
     Ok(Checked {
         tree,
-        plant,
+        network,
         names,
         costs: found.costs,
     })
@@ -77,17 +77,17 @@ pub fn check(alloc: Global, tree: Ruleset, plant: Plant) -> Result<Checked, Chec
 fn judge(
     alloc: Global,
     tree: &Ruleset,
-    plant: &Plant,
+    network: &Plant,
 ) -> Result<(RulesetNames, Findings), CheckError>
     ensures names { IfOk result (λ x. x.0 ≡ map names_in (tables_of tree.now)) }
     ensures found { IfOk result (λ x. AreFindings (tables_of tree.now) x.1) }
-    ensures fine { IfOk result (λ _. WellFormed (tables_of tree.now) plant.now) }
-    ensures refused { IfErr result (λ error. IsCheckRefusal (tables_of tree.now) plant.now error) }
+    ensures fine { IfOk result (λ _. WellFormed (tables_of tree.now) network.now) }
+    ensures refused { IfErr result (λ error. IsCheckRefusal (tables_of tree.now) network.now error) }
 {
     let Some(names) = RulesetNames::of(alloc, tree)? else {
         return Err(CheckError::Refused(CheckFault::DuplicateName));
     };
-    let found = analyze(alloc, &names.tables(alloc, tree)?, tree, plant)?;
+    let found = analyze(alloc, &names.tables(alloc, tree)?, tree, network)?;
     Ok((names, found))
 }
 
@@ -99,13 +99,13 @@ fn judge(
 pub fn least_fault(
     alloc: Global,
     tree: &Ruleset,
-    plant: &Plant,
+    network: &Plant,
 ) -> Result<Option<CheckFault>, AllocError>
-    ensures fine { IfOk result (λ o. o ≡ None → WellFormed (tables_of tree.now) plant.now) }
+    ensures fine { IfOk result (λ o. o ≡ None → WellFormed (tables_of tree.now) network.now) }
     ensures refused { IfOk result (λ o.
-        IfSome o (λ fault. LeastFault fault (tables_of tree.now) plant.now)) }
+        IfSome o (λ fault. LeastFault fault (tables_of tree.now) network.now)) }
 {
-    match judge(alloc, tree, plant) {
+    match judge(alloc, tree, network) {
         Ok(_) => Ok(None),
         Err(CheckError::Refused(fault)) => Ok(Some(fault)),
         Err(CheckError::Memory) => Err(AllocError),
@@ -121,9 +121,9 @@ impl Checked {
 
     /// The box that it was checked for.
     pub fn plant(&self) -> &Plant
-        ensures { result.now ≡ self.now.plant }
+        ensures { result.now ≡ self.now.network }
     {
-        &self.plant
+        &self.network
     }
 
     /// The tables, with lookup of their chains, sets and maps by name.
@@ -158,7 +158,7 @@ impl Checked {
     /// solution, all base chains plus 1 for each cost at most 65,536 together, and no path from a
     /// chain has more than 16 jumps.
     pub fn known_bounds(&self)
-        ensures fine { WellFormed self.now.rules self.now.plant }
+        ensures fine { WellFormed self.now.rules self.now.network }
         ensures some { (costs : List (List ℕ)) × AreRulesetCosts self.now.rules costs }
         ensures total { (costs : List (List ℕ)) → AreRulesetCosts self.now.rules costs
             → ruleset_sum self.now.rules costs ≤ MAX_COST }

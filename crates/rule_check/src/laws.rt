@@ -10,16 +10,16 @@ use rule_paths::path_faults_decidable;
 
 /// A ruleset has at most one least fault on a box, and none if it is well formed.
 pub fn least_fault_unique()
-    ensures one { (tables : List TableTree) (plant : PlantTree) (fault other : CheckFault)
-        → LeastFault fault tables plant → LeastFault other tables plant → fault ≡ other }
-    ensures faultless { (tables : List TableTree) (plant : PlantTree) (fault : CheckFault)
-        → WellFormed tables plant → LeastFault fault tables plant → ⊥ }
+    ensures one { (tables : List TableTree) (network : PlantTree) (fault other : CheckFault)
+        → LeastFault fault tables network → LeastFault other tables network → fault ≡ other }
+    ensures faultless { (tables : List TableTree) (network : PlantTree) (fault : CheckFault)
+        → WellFormed tables network → LeastFault fault tables network → ⊥ }
 {}
 
 /// Every ruleset is well formed on a box, or has a least fault.
 pub fn well_formed_or_least_fault()
-    ensures { (tables : List TableTree) (plant : PlantTree)
-        → WellFormed tables plant ⊎ ((fault : CheckFault) × LeastFault fault tables plant) }
+    ensures { (tables : List TableTree) (network : PlantTree)
+        → WellFormed tables network ⊎ ((fault : CheckFault) × LeastFault fault tables network) }
 {
     duplicate_names_decidable();
     path_faults_decidable();

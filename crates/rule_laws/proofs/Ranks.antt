@@ -119,9 +119,9 @@ in_calls (x ∷ xs) s e has called =
           (in_calls xs s e later called)
     ]
 
-module _ (plant : PlantTree) (number : ℕ) (t : TableTree) where
+module _ (network : PlantTree) (number : ℕ) (t : TableTree) where
   abbrev p : Program Statement
-  p = table_program plant number t
+  p = table_program network number t
 
   -- ---- the path to the chain of a verdict
 
@@ -148,11 +148,11 @@ module _ (plant : PlantTree) (number : ℕ) (t : TableTree) where
   module _ (once : HasDuplicate (chain_names t) → ⊥) (whole : There t (targets_of t)) (cost : Caller → ℕ) (are : AreCosts t cost) where
     -- ---- costs
 
-    sum_is : (ss : List Statement) → sum_by (weight_by cost) ss ≡ rule_weight p (weight_by cost) (Good cost plant number t) ss
+    sum_is : (ss : List Statement) → sum_by (weight_by cost) ss ≡ rule_weight p (weight_by cost) (Good cost network number t) ss
     sum_is [] = refl
     sum_is (s ∷ ss) = sum_by-cons (weight_by cost) s ss ∙ ap (λ n. weight_by cost s + n) (sum_is ss)
 
-    sums_are : (rs : List (List Statement)) → sum_by (sum_by (weight_by cost)) rs ≡ rules_weight p (weight_by cost) (Good cost plant number t) rs
+    sums_are : (rs : List (List Statement)) → sum_by (sum_by (weight_by cost)) rs ≡ rules_weight p (weight_by cost) (Good cost network number t) rs
     sums_are [] = refl
     sums_are (r ∷ rs) = sum_by-cons (sum_by (weight_by cost)) r rs ∙ ap₂ (λ m n. m + n) (sum_is r) (sums_are rs)
 
@@ -160,7 +160,7 @@ module _ (plant : PlantTree) (number : ℕ) (t : TableTree) where
     costs_at : (i : ℕ) (c : ChainTree) → slice_get (chains_of t) i ≡ Some c → cost (a_chain c.name)
         ≡ sum_by (sum_by (weight_by cost)) (map (λ r. r.statements) c.rules)
     costs_at i c at = are (a_chain c.name) ∙ ap (λ o. node_cost cost (chain_node o))
-        (own_name (chains_of t) i c at once) ∙ sym (rules_weigh cost plant number t c.rules)
+        (own_name (chains_of t) i c at once) ∙ sym (rules_weigh cost network number t c.rules)
         ∙ sym (sums_are (map (λ r. r.statements) c.rules))
 
     sums_at : (i : ℕ) (rules : List (List Statement)) (o : Option ChainTree) → slice_get (chains_of t) i ≡ o
@@ -218,20 +218,20 @@ module _ (plant : PlantTree) (number : ℕ) (t : TableTree) where
           let there : i ≡ q.place = sym is ∙ ap (λ o. unwrap_or o (length (chains_of t))) q.is in
           record { chain = c; stands = ap (slice_get (chains_of t)) there ∙ q.stands; same_name = q.same_name }
 
-      good_in_rule : (ss : List Statement) (s : Statement) → GoodRule p (weight_by cost) (Good cost plant number t) ss
-          → Contains ss s → Good cost plant number t s
+      good_in_rule : (ss : List Statement) (s : Statement) → GoodRule p (weight_by cost) (Good cost network number t) ss
+          → Contains ss s → Good cost network number t s
       good_in_rule [] s h has = absurd (Contains-none s has)
       good_in_rule (x ∷ xs) s h has = elim (Contains-cases x s xs has)
-          [ inl e ↦ subst (Good cost plant number t) e h.0 | inr later ↦ good_in_rule xs s h.1 later ]
+          [ inl e ↦ subst (Good cost network number t) e h.0 | inr later ↦ good_in_rule xs s h.1 later ]
 
       good_in : (rs : List (List Statement)) (rule : List Statement) (s : Statement)
-          → GoodRules p (weight_by cost) (Good cost plant number t) rs → Contains rs rule → Contains rule s
-          → Good cost plant number t s
+          → GoodRules p (weight_by cost) (Good cost network number t) rs → Contains rs rule → Contains rule s
+          → Good cost network number t s
       good_in [] rule s h has in_rule = absurd (Contains-none rule has)
       good_in (r ∷ rs) rule s h has in_rule =
           elim (Contains-cases r rule rs has) [
             | inl e ↦ good_in_rule rule s
-                (subst (GoodRule p (weight_by cost) (Good cost plant number t)) e h.0) in_rule
+                (subst (GoodRule p (weight_by cost) (Good cost network number t)) e h.0) in_rule
             | inr later ↦ good_in rs
                 rule s h.1 later in_rule
           ]
@@ -242,14 +242,14 @@ module _ (plant : PlantTree) (number : ℕ) (t : TableTree) where
 
       module _ (c d : ℕ) (s : Statement) (name : Text) (v : VerdictTree) (e : Call Caller) (to : e.to ≡ a_chain name)
           (called : Contains (verdict_calls v) e) (is : chain_number t name ≡ d) (chosen : Chooses t s v)
-          (there : Good cost plant number t s → is_some (chain_named t name) ≡ true)
+          (there : Good cost network number t s → is_some (chain_named t name) ≡ true)
           (less : cost (a_chain name) < weight_by cost s) where
         falls_from : (x : ChainTree) → slice_get (chains_of t) c ≡ Some x → (rule : List Statement)
             → Contains (map (λ r. r.statements) x.rules) rule → Contains rule s → Falls c d s (if e.is_jump then 1 else 0)
         falls_from x at rule in_chain in_rule =
-            let good : Good cost plant number t s =
+            let good : Good cost network number t s =
             good_in (map (λ r. r.statements) x.rules) rule s
-            (rules_good cost plant number t x.rules
+            (rules_good cost network number t x.rules
             (every_got (λ y. There t (flat_map rule_targets y.rules)) (chains_of t) c x
             at (chains_there t t.items whole))) in_chain in_rule in
             let goal = target name d is (chain_named t name) refl (there good) in
@@ -272,21 +272,21 @@ module _ (plant : PlantTree) (number : ℕ) (t : TableTree) where
 
       falls_jump : (c d : ℕ) (s : Statement) (at : StatementPosition) (f : Facts) → IsStatementOf p c s → p.effect_of at s f ≡ give (Jump d) → Falls c d s 1
       falls_jump c d s at f stands effect_of =
-          let q = decides t plant s at f (Jump d) effect_of in
+          let q = decides t network s at f (Jump d) effect_of in
           let e : Call Caller = record { to = a_chain q.0; is_jump = true } in
-          let less = less_chosen cost plant number t are whole s (tree.jump q.0) q.2 in
+          let less = less_chosen cost network number t are whole s (tree.jump q.0) q.2 in
           falls_by c d s q.0 (tree.jump q.0) e refl (Contains-head e []) q.1 q.2
-          (λ good. (there_chosen cost plant number t are whole s (tree.jump q.0) good q.2).0)
+          (λ good. (there_chosen cost network number t are whole s (tree.jump q.0) good q.2).0)
           (omega (arith, less)) (slice_get (chains_of t) c) refl stands.rules stands.has stands.rule
           stands.in_chain stands.in_rule
 
       falls_goto : (c d : ℕ) (s : Statement) (at : StatementPosition) (f : Facts) → IsStatementOf p c s → p.effect_of at s f ≡ give (Goto d) → Falls c d s 0
       falls_goto c d s at f stands effect_of =
-          let q = decides t plant s at f (Goto d) effect_of in
+          let q = decides t network s at f (Goto d) effect_of in
           let e : Call Caller = record { to = a_chain q.0; is_jump = false } in
-          let less = less_chosen cost plant number t are whole s (tree.goto q.0) q.2 in
+          let less = less_chosen cost network number t are whole s (tree.goto q.0) q.2 in
           falls_by c d s q.0 (tree.goto q.0) e refl (Contains-head e []) q.1 q.2
-          (λ good. (there_chosen cost plant number t are whole s (tree.goto q.0) good q.2).0)
+          (λ good. (there_chosen cost network number t are whole s (tree.goto q.0) good q.2).0)
           (omega (arith, less)) (slice_get (chains_of t) c) refl stands.rules stands.has stands.rule
           stands.in_chain stands.in_rule
 

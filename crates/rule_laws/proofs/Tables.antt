@@ -115,12 +115,12 @@ module _ (cost : Caller → ℕ) where
   cost_append [] ys = omega arith
   cost_append (x ∷ xs) ys = omega (arith, cost_append xs ys)
 
-  module _ (plant : PlantTree) (number : ℕ) (t : TableTree) where
+  module _ (network : PlantTree) (number : ℕ) (t : TableTree) where
     abbrev pub Good : Statement → Type 0
     Good s = There t (statement_targets s)
 
     abbrev p : Program Statement
-    p = table_program plant number t
+    p = table_program network number t
 
     rule_good : (ss : List Statement) → There t (flat_map statement_targets ss) → GoodRule p (weight_by cost) Good ss
     rule_good [] h = tt
@@ -209,4 +209,4 @@ module _ (cost : Caller → ℕ) where
       leads s h (decisions.Goto i) q = lighter s i q.0 q.1 (there_chosen s (tree.goto q.0) h q.2).0 (omega (arith, less_chosen s (tree.goto q.0) q.2))
 
       pub falls : Falls p (weight_by cost) Good
-      falls s h at f d is = leads s h d (decides t plant s at f d is)
+      falls s h at f d is = leads s h d (decides t network s at f d is)

@@ -86,18 +86,18 @@ then_ends first second a b f es = by_ending (a f es)
           (q.0, hooks.stops q.1 ends)
     ]
 
-module _ (costs : SomeCosts) (plant : PlantTree) (tables : List TableTree) (well : WellFormed tables plant) where
-  base_ends : (b : BaseChain) → Stands tables b → Terminates (RunsBaseChain plant tables b)
+module _ (costs : SomeCosts) (network : PlantTree) (tables : List TableTree) (well : WellFormed tables network) where
+  base_ends : (b : BaseChain) → Stands tables b → Terminates (RunsBaseChain network tables b)
   base_ends b s f es =
       let t = s.table in
-      let c = costs tables t (well faults.Cycle) (contained tables plant well b.number.table t s.at) in
-      let all_there = whole tables plant well b.number.table t s.at in
-      let p = table_program plant b.number.table t in
-      let good = rules_good c.0 plant b.number.table t s.chain.rules
+      let c = costs tables t (well faults.Cycle) (contained tables network well b.number.table t s.at) in
+      let all_there = whole tables network well b.number.table t s.at in
+      let p = table_program network b.number.table t in
+      let good = rules_good c.0 network b.number.table t s.chain.rules
       (every_got (λ x. There t (flat_map rule_targets x.rules)) (chains_of t) b.number.chain s.chain s.is
       (chains_there t t.items all_there)) in
-      let q = some_run p (weight_by c.0) (Good c.0 plant b.number.table t)
-      (falls c.0 plant b.number.table t c.1 all_there) b.number.chain (map (λ r. r.statements) s.chain.rules) good f es in (
+      let q = some_run p (weight_by c.0) (Good c.0 network b.number.table t)
+      (falls c.0 network b.number.table t c.1 all_there) b.number.chain (map (λ r. r.statements) s.chain.rules) good f es in (
         with_policy b.number (policy_of b.head) q.0,
         record {
           table = t;
@@ -110,14 +110,14 @@ module _ (costs : SomeCosts) (plant : PlantTree) (tables : List TableTree) (well
         },
       )
 
-  pub some_base : (b : BaseChain) → Contains (base_chains_of tables) b → Terminates (RunsBaseChain plant tables b)
+  pub some_base : (b : BaseChain) → Contains (base_chains_of tables) b → Terminates (RunsBaseChain network tables b)
   some_base b has = base_ends b (every_contained (Stands tables) (base_chains_of tables) b has (all_stand tables))
 
-  in_turn : (bs : List BaseChain) → Every (Stands tables) bs → Terminates (InTurn plant tables bs)
+  in_turn : (bs : List BaseChain) → Every (Stands tables) bs → Terminates (InTurn network tables bs)
   in_turn [] all = nothing_ends
-  in_turn (b ∷ bs) all = then_ends (RunsBaseChain plant tables b) (InTurn plant tables bs) (base_ends b all.0) (in_turn bs all.1)
+  in_turn (b ∷ bs) all = then_ends (RunsBaseChain network tables b) (InTurn network tables bs) (base_ends b all.0) (in_turn bs all.1)
 
-  pub some_chains : (test : BaseChain → Bool) → Terminates (Chains plant tables test)
+  pub some_chains : (test : BaseChain → Bool) → Terminates (Chains network tables test)
   some_chains test f es =
       let text = filter test (base_chains_of tables) in
       let q = in_turn (ordered runs_before text)

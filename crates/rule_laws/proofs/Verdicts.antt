@@ -88,12 +88,12 @@ module _ (t : TableTree) where
   either ps None b x y = y
   either ps (Some v) b x y = x
 
-  from_list : (plant : PlantTree) (kind : ComparedType) (ps : List PairTree) (n : ℕ) → FromList ps (pairs_give data_verdict plant kind ps n)
-  from_list plant kind [] n = tt
-  from_list plant kind (p ∷ ps) n =
-      either (p ∷ ps) (pair_gives data_verdict plant kind n p) (pairs_give data_verdict plant kind ps n)
-      (if_spans (spans (numbers_of plant kind p.key) n) p ps)
-      (later p ps (pairs_give data_verdict plant kind ps n) (from_list plant kind ps n))
+  from_list : (network : PlantTree) (kind : ComparedType) (ps : List PairTree) (n : ℕ) → FromList ps (pairs_give data_verdict network kind ps n)
+  from_list network kind [] n = tt
+  from_list network kind (p ∷ ps) n =
+      either (p ∷ ps) (pair_gives data_verdict network kind n p) (pairs_give data_verdict network kind ps n)
+      (if_spans (spans (numbers_of network kind p.key) n) p ps)
+      (later p ps (pairs_give data_verdict network kind ps n) (from_list network kind ps n))
 
   abbrev Chosen : Statement → Option VerdictTree → Type 0
   Chosen s None = Unit {0}
@@ -108,10 +108,10 @@ module _ (t : TableTree) where
   of_named x name m None is h = tt
   of_named x name m (Some v) is h = of_map m is h
 
-  of_declared : (plant : PlantTree) (x : Selector) (name : Text) (n : ℕ) (o : Option MapTree) → map_named t name ≡ o
-      → Chosen (tree.verdict_map x (tree.named_map name)) (declared_gives data_verdict plant o n)
-  of_declared plant x name n None is = tt
-  of_declared plant x name n (Some m) is = grind (arith, of_named, m.types, m.elements, from_list)
+  of_declared : (network : PlantTree) (x : Selector) (name : Text) (n : ℕ) (o : Option MapTree) → map_named t name ≡ o
+      → Chosen (tree.verdict_map x (tree.named_map name)) (declared_gives data_verdict network o n)
+  of_declared network x name n None is = tt
+  of_declared network x name n (Some m) is = grind (arith, of_named, m.types, m.elements, from_list)
 
   -- ---- statements
 
@@ -146,15 +146,15 @@ module _ (t : TableTree) where
   translated s None = tt
   translated s (Some x) = tt
 
-  module _ (plant : PlantTree) where
+  module _ (network : PlantTree) where
     abbrev scope : Scope
-    scope = record { plant = plant; table = t }
+    scope = record { network = network; table = t }
 
     by_map : (x : Selector) (m : MapRefTree) (o : Option ℕ) → Chosen (tree.verdict_map x m) (option_and_then (map_gives data_verdict scope x m) o)
     by_map x m None = tt
-    by_map x (tree.named_map name) (Some n) = of_declared plant x name n (map_named t name) refl
-    by_map x (tree.pairs ps) (Some n) = of_list x ps (pairs_give data_verdict plant (selector_compared_type x) ps n)
-        (from_list plant (selector_compared_type x) ps n)
+    by_map x (tree.named_map name) (Some n) = of_declared network x name n (map_named t name) refl
+    by_map x (tree.pairs ps) (Some n) = of_list x ps (pairs_give data_verdict network (selector_compared_type x) ps n)
+        (from_list network (selector_compared_type x) ps n)
 
     effect_of : (s : Statement) (at : StatementPosition) (f : Facts) → Says s (statement_effect scope at s f)
     effect_of (tree.matching m) at f = matched (tree.matching m) (holds scope m f)

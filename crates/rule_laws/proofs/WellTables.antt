@@ -21,7 +21,7 @@ got_passes test [] i x e passed = absurd cc
 got_passes test (y ∷ ys) zero x e passed = let same : test y ≡ true = ap (λ o. test (unwrap_or o y)) e ∙ passed in ap (λ b. b || list_any test ys) same
 got_passes test (y ∷ ys) (suc i) x e passed = grind (arith, got_passes test ys i x e passed)
 
-module _ (tables : List TableTree) (plant : PlantTree) (well : WellFormed tables plant) (number : ℕ) (t : TableTree)
+module _ (tables : List TableTree) (network : PlantTree) (well : WellFormed tables network) (number : ℕ) (t : TableTree)
     (at : slice_get tables number ≡ Some t) where
   pub contained : Contains tables t
   contained = got_contained tables number t at

@@ -16,13 +16,13 @@ use rule_paths::costs_exist;
 /// In a well-formed ruleset each base chain and each stage of a hook has a result, for all facts and
 /// events before.
 pub fn hooks_terminate()
-    ensures base { (tables : List TableTree) (plant : PlantTree) → WellFormed tables plant
+    ensures base { (tables : List TableTree) (network : PlantTree) → WellFormed tables network
         → (b : BaseChain) → Contains (base_chains_of tables) b
-        → Terminates (RunsBaseChain plant tables b) }
-    ensures chains { (tables : List TableTree) (plant : PlantTree) → WellFormed tables plant
-        → (test : BaseChain → Bool) → Terminates (Chains plant tables test) }
-    ensures stages { (tables : List TableTree) (plant : PlantTree) → WellFormed tables plant
-        → (stage : HookStage) → Terminates (Stage stage plant tables) }
+        → Terminates (RunsBaseChain network tables b) }
+    ensures chains { (tables : List TableTree) (network : PlantTree) → WellFormed tables network
+        → (test : BaseChain → Bool) → Terminates (Chains network tables test) }
+    ensures stages { (tables : List TableTree) (network : PlantTree) → WellFormed tables network
+        → (stage : HookStage) → Terminates (Stage stage network tables) }
 {
     costs_exist();
 }
@@ -30,9 +30,9 @@ pub fn hooks_terminate()
 /// In a well-formed ruleset the costs and depths of chains are a ranking of each table's program: a
 /// statement weighs more than its targets cost, and a jump's target has a smaller depth.
 pub fn costs_rank_chains()
-    ensures { (tables : List TableTree) (plant : PlantTree) → WellFormed tables plant
+    ensures { (tables : List TableTree) (network : PlantTree) → WellFormed tables network
         → (number : ℕ) (t : TableTree) → slice_get tables number ≡ Some t → (cost : Caller → ℕ)
         → AreCosts t cost → (depths : List ℕ) → AreChainDepths t depths
-        → IsRanking (table_program plant number t) (weight_by cost) (chain_cost_by t cost)
+        → IsRanking (table_program network number t) (weight_by cost) (chain_cost_by t cost)
         (λ c. slice_index depths c) }
 {}

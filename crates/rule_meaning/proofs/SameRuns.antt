@@ -117,17 +117,17 @@ empty_jumps p c n k t s ss rs f es is none o = (
   λ r. runs.jumps t f (with_verdict p es c n (Jump t)) [] is none runs.chain_ends r,
 )
 
-pub counter_sees : (plant : PlantTree) (number : ℕ) (t : TableTree) → CounterCounts plant number t
-counter_sees plant number t c n k before after start rs f g es later e o =
-    let p = table_program plant number t in
+pub counter_sees : (network : PlantTree) (number : ℕ) (t : TableTree) → CounterCounts network number t
+counter_sees network number t c n k before after start rs f g es later e o =
+    let p = table_program network number t in
     let q = comes_through p c n (tree.counter start ∷ after) rs g later o before k f es e in (
       λ r. saying p (note (Counted (statement_position p c n (k + length before))) g) refl (q.0 r),
       λ r. q.1 (runs.notes (Counted (statement_position p c n (k + length before))) g refl r),
     )
 
-pub nothing_behind : (plant : PlantTree) (number : ℕ) (t : TableTree) → UnreachedHasNoEffect plant number t
-nothing_behind plant number t c n k before after rs f es e o =
-    let p = table_program plant number t in
+pub nothing_behind : (network : PlantTree) (number : ℕ) (t : TableTree) → UnreachedHasNoEffect network number t
+nothing_behind network number t c n k before after rs f es e o =
+    let p = table_program network number t in
     let whole : before ++ [] ≡ before = append-nil before in (
       λ r. subst (λ l. Runs p c n (in_rule k l rs) f es o) whole (stops_within p c n after [] rs o before k f es e r),
       λ r. stops_within p c n [] after rs o before k f es e (subst (λ l. Runs p c n (in_rule k l rs) f es o) (sym whole) r),

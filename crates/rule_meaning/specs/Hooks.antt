@@ -117,14 +117,14 @@ abbrev pub Traversal : Type 1
 Traversal = Facts → List Event → HookResult → Type 0
 
 -- a packet runs through a base chain of the ruleset
-pub record RunsBaseChain (plant : PlantTree) (tables : List TableTree) (b : BaseChain) (f : Facts)
+pub record RunsBaseChain (network : PlantTree) (tables : List TableTree) (b : BaseChain) (f : Facts)
     (es : List Event) (hook_result : HookResult) : Type 0 where
   pub table : TableTree
   pub stands : slice_get tables b.number.table ≡ Some table
   pub rules : List (List Statement)
-  pub has : (table_program plant b.number.table table).rules_at b.number.chain ≡ Some rules
+  pub has : (table_program network b.number.table table).rules_at b.number.chain ≡ Some rules
   pub after : RunResult
-  pub runs : Runs (table_program plant b.number.table table) b.number.chain 1 (at_rule rules) f es after
+  pub runs : Runs (table_program network b.number.table table) b.number.chain 1 (at_rule rules) f es after
   pub is : hook_result ≡ with_policy b.number (policy_of b.head) after
 
 -- ---- sequences
@@ -150,15 +150,15 @@ pub data Then (first second : Traversal) (f : Facts) (es : List Event)
 
 -- base chains one after the other: an accept ends one of them, a drop or a NAT statement all
 abbrev pub InTurn : PlantTree → List TableTree → List BaseChain → Traversal
-InTurn plant tables [] = NoChain
-InTurn plant tables (b ∷ bs) = Then (RunsBaseChain plant tables b) (InTurn plant tables bs)
+InTurn network tables [] = NoChain
+InTurn network tables (b ∷ bs) = Then (RunsBaseChain network tables b) (InTurn network tables bs)
 
 -- all base chains that pass the test, in order of priority
-pub record Chains (plant : PlantTree) (tables : List TableTree) (test : BaseChain → Bool) (f : Facts)
+pub record Chains (network : PlantTree) (tables : List TableTree) (test : BaseChain → Bool) (f : Facts)
     (es : List Event) (hook_result : HookResult) : Type 0 where
   pub order : List BaseChain
   pub in_order : InOrder (filter test (base_chains_of tables)) order
-  pub run : InTurn plant tables order f es hook_result
+  pub run : InTurn network tables order f es hook_result
 
 -- ---- the stages of hooks
 
@@ -189,4 +189,4 @@ chains_in_stage stages.PostroutingAfterNat = λ b. filter_chains_on hooks.Postro
 -- a packet runs through the base chains of a stage; those of type nat until a NAT statement applies
 -- (nft(8), "NAT statements")
 abbrev pub Stage : HookStage → PlantTree → List TableTree → Traversal
-Stage stage plant tables = Chains plant tables (chains_in_stage stage)
+Stage stage network tables = Chains network tables (chains_in_stage stage)

@@ -76,19 +76,19 @@ EmptyJump p =
 
 -- a counter after statements that a packet passes counts it, after their events
 abbrev pub CounterCounts : PlantTree → ℕ → TableTree → Type 0
-CounterCounts plant number t =
+CounterCounts network number t =
     (c n k : ℕ) (before after : List Statement) (start : Option CounterStart) (rs : List (List Statement))
     (f g : Facts) (es later : List Event)
-    → state_after (table_program plant number t) c n k before f es ≡ Some (g, later)
-    → RunsAlike (table_program plant number t) c n
+    → state_after (table_program network number t) c n k before f es ≡ Some (g, later)
+    → RunsAlike (table_program network number t) c n
     (in_rule k (before ++ tree.counter start ∷ after) rs) f es n
     (in_rule (k + length before + 1) after rs) g
-    (later ++ Counted (statement_position (table_program plant number t) c n (k + length before)) ∷ [])
+    (later ++ Counted (statement_position (table_program network number t) c n (k + length before)) ∷ [])
 
 -- what follows statements that a packet doesn't pass has no effect on it
 abbrev pub UnreachedHasNoEffect : PlantTree → ℕ → TableTree → Type 0
-UnreachedHasNoEffect plant number t =
+UnreachedHasNoEffect network number t =
     (c n k : ℕ) (before after : List Statement) (rs : List (List Statement)) (f : Facts) (es : List Event)
-    → state_after (table_program plant number t) c n k before f es ≡ None
-    → RunsAlike (table_program plant number t) c n (in_rule k (before ++ after) rs) f es n
+    → state_after (table_program network number t) c n k before f es ≡ None
+    → RunsAlike (table_program network number t) c n (in_rule k (before ++ after) rs) f es n
     (in_rule k before rs) f es

@@ -80,7 +80,7 @@ flags_of fs = union (map flag_number fs)
 
 abbrev pub holds : Scope → MatchTree → Facts → Bool
 holds scope (tree.compare s o r) f =
-    tests (value s f) (compares_with o (numbers_of scope.plant (selector_compared_type s) r))
+    tests (value s f) (compares_with o (numbers_of scope.network (selector_compared_type s) r))
 holds scope (tree.is_in ss set) f = tests (joined_value ss f) (set_has scope ss set)
 holds scope (tree.not_in ss set) f = tests (joined_value ss f) (λ n. not (set_has scope ss set n))
 holds scope (tree.bits field test words) f =

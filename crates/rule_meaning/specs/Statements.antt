@@ -72,7 +72,7 @@ mark_selector marks.Ct = selectors.CtMark
 
 -- the number, of this type, that a map has for a selector's value
 abbrev pub look_number : Scope → ValueType → MapLookupTree → Facts → Option ℕ
-look_number scope t l f = looked_up (data_number scope.plant (Named t)) scope l.selector l.map f
+look_number scope t l f = looked_up (data_number scope.network (Named t)) scope l.selector l.map f
 
 abbrev pub operand_number : Scope → OperandTree → Facts → Option ℕ
 operand_number scope (tree.constant n) f = Some n

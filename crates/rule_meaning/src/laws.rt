@@ -29,14 +29,14 @@ pub fn run_unique_for<S>()
 pub fn hook_result_unique()
     ensures order { (text order other : List BaseChain) → InOrder text order → InOrder text other
         → order ≡ other }
-    ensures base { (plant : PlantTree) (tables : List TableTree) (b : BaseChain)
-        → AtMostOneResult (RunsBaseChain plant tables b) }
-    ensures in_turn { (plant : PlantTree) (tables : List TableTree) (bs : List BaseChain)
-        → AtMostOneResult (InTurn plant tables bs) }
-    ensures chains { (plant : PlantTree) (tables : List TableTree) (test : BaseChain → Bool)
-        → AtMostOneResult (Chains plant tables test) }
-    ensures stages { (stage : HookStage) (plant : PlantTree) (tables : List TableTree)
-        → AtMostOneResult (Stage stage plant tables) }
+    ensures base { (network : PlantTree) (tables : List TableTree) (b : BaseChain)
+        → AtMostOneResult (RunsBaseChain network tables b) }
+    ensures in_turn { (network : PlantTree) (tables : List TableTree) (bs : List BaseChain)
+        → AtMostOneResult (InTurn network tables bs) }
+    ensures chains { (network : PlantTree) (tables : List TableTree) (test : BaseChain → Bool)
+        → AtMostOneResult (Chains network tables test) }
+    ensures stages { (stage : HookStage) (network : PlantTree) (tables : List TableTree)
+        → AtMostOneResult (Stage stage network tables) }
 {}
 
 /// A match fails if one of its selectors has no value.
@@ -48,19 +48,19 @@ pub fn match_needs_value()
 
 /// After a base chain that drops or translates, no further one runs.
 pub fn drop_ends_hook()
-    ensures { (plant : PlantTree) (tables : List TableTree) (b : BaseChain) (bs : List BaseChain)
+    ensures { (network : PlantTree) (tables : List TableTree) (b : BaseChain) (bs : List BaseChain)
         (f : Facts) (es : List Event) (between hook_result : HookResult)
-        → RunsBaseChain plant tables b f es between → Stops between.verdict
-        → InTurn plant tables (b ∷ bs) f es hook_result ↔ (hook_result ≡ between) }
+        → RunsBaseChain network tables b f es between → Stops between.verdict
+        → InTurn network tables (b ∷ bs) f es hook_result ↔ (hook_result ≡ between) }
 {}
 
 /// After a base chain that accepts, the next ones run with its facts and events.
 pub fn accept_ends_chain()
-    ensures { (plant : PlantTree) (tables : List TableTree) (b : BaseChain) (bs : List BaseChain)
+    ensures { (network : PlantTree) (tables : List TableTree) (b : BaseChain) (bs : List BaseChain)
         (f : Facts) (es : List Event) (between hook_result : HookResult)
-        → RunsBaseChain plant tables b f es between → Continues between.verdict
-        → InTurn plant tables (b ∷ bs) f es hook_result
-        ↔ InTurn plant tables bs between.facts between.events hook_result }
+        → RunsBaseChain network tables b f es between → Continues between.verdict
+        → InTurn network tables (b ∷ bs) f es hook_result
+        ↔ InTurn network tables bs between.facts between.events hook_result }
 {}
 
 /// A jump to a chain without rules has no effect but its event.
@@ -70,7 +70,7 @@ pub fn empty_chain_jump()
 
 /// A counter counts exactly the packets that pass all statements before it in its rule.
 pub fn counters_count()
-    ensures seen { (plant : PlantTree) (number : ℕ) (t : TableTree) → CounterCounts plant number t }
-    ensures unseen { (plant : PlantTree) (number : ℕ) (t : TableTree)
-        → UnreachedHasNoEffect plant number t }
+    ensures seen { (network : PlantTree) (number : ℕ) (t : TableTree) → CounterCounts network number t }
+    ensures unseen { (network : PlantTree) (number : ℕ) (t : TableTree)
+        → UnreachedHasNoEffect network number t }
 {}

@@ -75,32 +75,32 @@ none_numbered : (n : ℕ) → numbered [] n ≡ None
 none_numbered zero = refl
 none_numbered (suc n) = refl
 
-module _ (plant : PlantTree) (tables : List TableTree) (d : DiagramsView) (r : RuleNo) (set : PacketSet) where
+module _ (network : PlantTree) (tables : List TableTree) (d : DiagramsView) (r : RuleNo) (set : PacketSet) where
   by_statements : (t : TableTree) (found : Option (List Statement)) → slice_get tables r.table ≡ Some t → statements_at t r ≡ found
-      → Means d set (λ p. meets_statements (table_program plant r.table t) r found (facts_of (interfaces_of plant) NOTHING p)) → MeansAlone plant tables d r set
+      → Means d set (λ p. meets_statements (table_program network r.table t) r found (facts_of (interfaces_of network) NOTHING p)) → MeansAlone network tables d r set
   by_statements t found at is means =
       let table : t ≡ table_at tables r.table = sym (get_or_from_slice_get tables r.table t _ at) in
-      let here = subst (λ o. Means d set (λ p. meets_statements (table_program plant r.table t) r o (facts_of (interfaces_of plant) NOTHING p))) (sym is) means in
-      subst (λ u. Means d set (λ p. meets_statements (table_program plant r.table u) r (statements_at u r) (facts_of (interfaces_of plant) NOTHING p)))
+      let here = subst (λ o. Means d set (λ p. meets_statements (table_program network r.table t) r o (facts_of (interfaces_of network) NOTHING p))) (sym is) means in
+      subst (λ u. Means d set (λ p. meets_statements (table_program network r.table u) r (statements_at u r) (facts_of (interfaces_of network) NOTHING p)))
       table here
 
-  pub alone_here : (t : TableTree) (ss : List Statement) (interfaces : List Interface) → interfaces ≡ interfaces_of plant → slice_get tables r.table ≡ Some t
+  pub alone_here : (t : TableTree) (ss : List Statement) (interfaces : List Interface) → interfaces ≡ interfaces_of network → slice_get tables r.table ≡ Some t
       → statements_at t r ≡ Some ss
-      → Means d set (λ p. (rule_end (table_program plant r.table t) r.chain r.rule 1 ss (facts_of interfaces NOTHING p)).met)
-      → MeansAlone plant tables d r set
+      → Means d set (λ p. (rule_end (table_program network r.table t) r.chain r.rule 1 ss (facts_of interfaces NOTHING p)).met)
+      → MeansAlone network tables d r set
   alone_here t ss interfaces same at is means = by_statements t (Some ss) at is
-      (subst (λ i. Means d set (λ p. (rule_end (table_program plant r.table t) r.chain r.rule 1 ss (facts_of i NOTHING p)).met)) same means)
+      (subst (λ i. Means d set (λ p. (rule_end (table_program network r.table t) r.chain r.rule 1 ss (facts_of i NOTHING p)).met)) same means)
 
-  pub no_rule : (t : TableTree) → slice_get tables r.table ≡ Some t → statements_at t r ≡ None → Means d set (λ p. false) → MeansAlone plant tables d r set
+  pub no_rule : (t : TableTree) → slice_get tables r.table ≡ Some t → statements_at t r ≡ None → Means d set (λ p. false) → MeansAlone network tables d r set
   no_rule t at is means = by_statements t None at is means
 
-  pub no_table : length tables ≤ r.table → Means d set (λ p. false) → MeansAlone plant tables d r set
+  pub no_table : length tables ≤ r.table → Means d set (λ p. false) → MeansAlone network tables d r set
   no_table past means =
       let none : table_at tables r.table ≡ record { family = Ip; name = []; items = [] } = get_or_past tables r.table _ past in
-      subst (λ u. Means d set (λ p. meets_statements (table_program plant r.table u) r (statements_at u r) (facts_of (interfaces_of plant) NOTHING p)))
+      subst (λ u. Means d set (λ p. meets_statements (table_program network r.table u) r (statements_at u r) (facts_of (interfaces_of network) NOTHING p)))
       (sym none)
-      (subst (λ o. Means d set (λ p. meets_statements (table_program plant r.table (record { family = Ip; name = []; items = [] })) r o
-      (facts_of (interfaces_of plant) NOTHING p))) (sym (none_numbered r.rule)) means)
+      (subst (λ o. Means d set (λ p. meets_statements (table_program network r.table (record { family = Ip; name = []; items = [] })) r o
+      (facts_of (interfaces_of network) NOTHING p))) (sym (none_numbered r.rule)) means)
 
 -- ---- by the ends of the rule
 
@@ -136,11 +136,11 @@ found_at t r c index ss at is found =
 same_some : {A : Type 0} (x y : A) → Some x ≡ Some y → x ≡ y
 same_some x y e = cc
 
-pub declared_at : (plant : PlantTree) (tables : List TableTree) (lookups : List Lookups) (i : ℕ) (t : TableTree) (l : Lookups)
-    → AllZip (HasDeclared plant) tables lookups → slice_get tables i ≡ Some t → slice_get lookups i ≡ Some l → HasDeclared plant t l
-declared_at plant tables lookups i t l all at there =
-    let z = zipped (HasDeclared plant) tables lookups i l all there in
-    subst (λ u. HasDeclared plant u l) (same_some z.0 t (sym z.1 ∙ at)) z.2
+pub declared_at : (network : PlantTree) (tables : List TableTree) (lookups : List Lookups) (i : ℕ) (t : TableTree) (l : Lookups)
+    → AllZip (HasDeclared network) tables lookups → slice_get tables i ≡ Some t → slice_get lookups i ≡ Some l → HasDeclared network t l
+declared_at network tables lookups i t l all at there =
+    let z = zipped (HasDeclared network) tables lookups i l all there in
+    subst (λ u. HasDeclared network u l) (same_some z.0 t (sym z.1 ∙ at)) z.2
 
 pub zip_set : {A B : Type 0} (R : A → B → Type 0) (xs : List A) (ys : List B) (i : ℕ) (x : A) (y : B) → AllZip R xs ys → slice_get xs i ≡ Some x
     → R x y → AllZip R xs (set ys i y)

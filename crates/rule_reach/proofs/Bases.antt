@@ -30,34 +30,34 @@ pub rest_from : {A : Type 0} (xs : List A) (i : ℕ) (x : A) → slice_get xs i 
 rest_from xs i x is = drop_more xs i x (slice_get_within xs i x is) ∙ ap (λ y. y ∷ drop (i + 1) xs) (get_or_from_slice_get xs i x x is)
 
 -- there are sets of all of them but those that are left
-pub record Done (plant : PlantTree) (tables : List TableTree) (d : DiagramsView) (before all left : List BaseChain) (sets : List BaseSets) : Type 0 where
+pub record Done (network : PlantTree) (tables : List TableTree) (d : DiagramsView) (before all left : List BaseChain) (sets : List BaseSets) : Type 0 where
   pub done : List BaseChain
   pub is : done ++ left ≡ all
-  pub made : AreSetsOf plant tables d (before ++ done) sets
+  pub made : AreSetsOf network tables d (before ++ done) sets
 
-pub done_none : (plant : PlantTree) (tables : List TableTree) (d : DiagramsView) (before all : List BaseChain) (sets : List BaseSets)
-    → AreSetsOf plant tables d before sets → Done plant tables d before all all sets
-done_none plant tables d before all sets is = record {
+pub done_none : (network : PlantTree) (tables : List TableTree) (d : DiagramsView) (before all : List BaseChain) (sets : List BaseSets)
+    → AreSetsOf network tables d before sets → Done network tables d before all all sets
+done_none network tables d before all sets is = record {
   done = [];
   is = refl;
-  made = subst (λ l. AreSetsOf plant tables d l sets) (sym (append-nil before)) is;
+  made = subst (λ l. AreSetsOf network tables d l sets) (sym (append-nil before)) is;
 }
 
-pub done_more : (plant : PlantTree) (tables : List TableTree) (d e : DiagramsView) (before all left more next : List BaseChain)
+pub done_more : (network : PlantTree) (tables : List TableTree) (d e : DiagramsView) (before all left more next : List BaseChain)
     (sets new : List BaseSets) → left ≡ more ++ next
-    → ((so_far : List BaseChain) → AreSetsOf plant tables d so_far sets → AreSetsOf plant tables e (so_far ++ more) new)
-    → Done plant tables d before all left sets → Done plant tables e before all next new
-done_more plant tables d e before all left more next sets new is step had = record {
+    → ((so_far : List BaseChain) → AreSetsOf network tables d so_far sets → AreSetsOf network tables e (so_far ++ more) new)
+    → Done network tables d before all left sets → Done network tables e before all next new
+done_more network tables d e before all left more next sets new is step had = record {
   done = had.done ++ more;
   is = append_assoc had.done more next ∙ ap (λ l. had.done ++ l) (sym is) ∙ had.is;
-  made = subst (λ l. AreSetsOf plant tables e l new) (append_assoc before had.done more) (step (before ++ had.done) had.made);
+  made = subst (λ l. AreSetsOf network tables e l new) (append_assoc before had.done more) (step (before ++ had.done) had.made);
 }
 
-pub done_all : (plant : PlantTree) (tables : List TableTree) (d : DiagramsView) (before all left : List BaseChain) (sets : List BaseSets) → left ≡ []
-    → Done plant tables d before all left sets → AreSetsOf plant tables d (before ++ all) sets
-done_all plant tables d before all left sets none had =
+pub done_all : (network : PlantTree) (tables : List TableTree) (d : DiagramsView) (before all left : List BaseChain) (sets : List BaseSets) → left ≡ []
+    → Done network tables d before all left sets → AreSetsOf network tables d (before ++ all) sets
+done_all network tables d before all left sets none had =
     let e = sym (append-nil had.done) ∙ ap (λ l. had.done ++ l) (sym none) ∙ had.is in
-    subst (λ l. AreSetsOf plant tables d (before ++ l) sets) e had.made
+    subst (λ l. AreSetsOf network tables d (before ++ l) sets) e had.made
 
 -- ---- no base chain yet
 
@@ -65,16 +65,16 @@ rules-shown : (rs : List RuleNo) → map (λ r. r.rule) (map unreached rs) ≡ r
 rules-shown [] = refl
 rules-shown (r ∷ rs) = ap (λ xs. r ∷ xs) (rules-shown rs)
 
-pub reach_none : (plant : PlantTree) (tables : List TableTree) (reach : Reach) → reach.rules.items ≡ map unreached (rules_of tables)
-    → reach.policies.items ≡ [] → IsReach plant tables [] reach
-reach_none plant tables reach all none =
-    let P = λ (r : RuleReach). IsAnswer plant tables [] r.rule r.answer in
+pub reach_none : (network : PlantTree) (tables : List TableTree) (reach : Reach) → reach.rules.items ≡ map unreached (rules_of tables)
+    → reach.policies.items ≡ [] → IsReach network tables [] reach
+reach_none network tables reach all none =
+    let P = λ (r : RuleReach). IsAnswer network tables [] r.rule r.answer in
     record {
       rules = ap (map (λ r. r.rule)) all ∙ rules-shown (rules_of tables);
       answers = All-same P reach.rules.items (map unreached (rules_of tables)) all (All-map P unreached (rules_of tables) (λ k r inside base f among comes.
           let lt = among.1 in absurd (omega arith)));
       policies = ap (map (λ p. p.chain)) none;
-      applies = All-same (IsPolicyReach plant tables []) reach.policies.items [] none (All-nil (IsPolicyReach plant tables []));
+      applies = All-same (IsPolicyReach network tables []) reach.policies.items [] none (All-nil (IsPolicyReach network tables []));
     }
 
 -- what no table has
@@ -84,14 +84,14 @@ none_at p (y ∷ ys) zero x none is = let e : y ≡ x = cc in ap p (sym e) ∙ (
 none_at p (y ∷ ys) (suc i) x none is = none_at p ys i x (or_parts (p y) (list_any p ys) none).1 is
 
 -- what a table of a well-formed ruleset hasn't
-pub types_at : (plant : PlantTree) (tables : List TableTree) (i : ℕ) (t : TableTree) → WellFormed tables plant → slice_get tables i ≡ Some t
+pub types_at : (network : PlantTree) (tables : List TableTree) (i : ℕ) (t : TableTree) → WellFormed tables network → slice_get tables i ≡ Some t
     → table_mismatches t ≡ false
-types_at plant tables i t fine at = none_at table_mismatches tables i t (false_from_ne_true _ (fine faults.TypeMismatch)) at
+types_at network tables i t fine at = none_at table_mismatches tables i t (false_from_ne_true _ (fine faults.TypeMismatch)) at
 
-pub bounds_at : (plant : PlantTree) (tables : List TableTree) (i : ℕ) (t : TableTree) → WellFormed tables plant → slice_get tables i ≡ Some t
+pub bounds_at : (network : PlantTree) (tables : List TableTree) (i : ℕ) (t : TableTree) → WellFormed tables network → slice_get tables i ≡ Some t
     → list_any item_out_of_range t.items ≡ false
-bounds_at plant tables i t fine at =
-    (or_parts _ _ (none_at (has_wrong_value plant) tables i t (false_from_ne_true _ (fine faults.WrongValue)) at)).1
+bounds_at network tables i t fine at =
+    (or_parts _ _ (none_at (has_wrong_value network) tables i t (false_from_ne_true _ (fine faults.WrongValue)) at)).1
 
 -- what goes with the one at a place
 pub zipped : {A B : Type 0} (R : A → B → Type 0) (xs : List A) (ys : List B) (i : ℕ) (y : B) → AllZip R xs ys → slice_get ys i ≡ Some y

@@ -30,16 +30,16 @@ and-less : (a b c : Bool) → (b ≡ false → c ≡ false) → (a && b) ≡ fal
 and-less true b c less none = less none
 and-less false b c less none = refl
 
-module _ (plant : PlantTree) (tables : List TableTree) where
-  pub none_met : (bases : List BaseChain) (r : RuleNo) → NoPacket plant tables bases (comes_at plant tables r) → NoPacket plant tables bases
-      (meets_at plant tables r)
+module _ (network : PlantTree) (tables : List TableTree) where
+  pub none_met : (bases : List BaseChain) (r : RuleNo) → NoPacket network tables bases (comes_at network tables r) → NoPacket network tables bases
+      (meets_at network tables r)
   none_met bases r none = λ b f among comes.
-      and-less _ _ _ (any-both (is_of_rule r.chain r.rule) _ (base_way plant tables b f).visits) (none b f among comes)
+      and-less _ _ _ (any-both (is_of_rule r.chain r.rule) _ (base_way network tables b f).visits) (none b f among comes)
 
   -- ---- one more base chain
 
-  pub some_more : (bases : List BaseChain) (b : BaseChain) (test : BaseChain → Facts → Bool) → SomePacket plant tables bases test
-      → SomePacket plant tables (bases ++ b ∷ []) test
+  pub some_more : (bases : List BaseChain) (b : BaseChain) (test : BaseChain → Facts → Bool) → SomePacket network tables bases test
+      → SomePacket network tables (bases ++ b ∷ []) test
   some_more bases b test s = record {
     base = s.base;
     among = Contains-append_left bases (b ∷ []) s.base s.among;
@@ -48,8 +48,8 @@ module _ (plant : PlantTree) (tables : List TableTree) where
     passes = s.passes;
   }
 
-  pub some_new : (bases : List BaseChain) (b : BaseChain) (test : BaseChain → Facts → Bool) → SomePacket plant tables (b ∷ []) test
-      → SomePacket plant tables (bases ++ b ∷ []) test
+  pub some_new : (bases : List BaseChain) (b : BaseChain) (test : BaseChain → Facts → Bool) → SomePacket network tables (b ∷ []) test
+      → SomePacket network tables (bases ++ b ∷ []) test
   some_new bases b test s = record {
     base = s.base;
     among = Contains-append_right bases (b ∷ []) s.base s.among;
@@ -58,28 +58,28 @@ module _ (plant : PlantTree) (tables : List TableTree) where
     passes = s.passes;
   }
 
-  pub none_more : (bases : List BaseChain) (b : BaseChain) (test : BaseChain → Facts → Bool) → NoPacket plant tables bases test
-      → NoPacket plant tables (b ∷ []) test → NoPacket plant tables (bases ++ b ∷ []) test
+  pub none_more : (bases : List BaseChain) (b : BaseChain) (test : BaseChain → Facts → Bool) → NoPacket network tables bases test
+      → NoPacket network tables (b ∷ []) test → NoPacket network tables (bases ++ b ∷ []) test
   none_more bases b test old new = λ base f among comes.
       elim (Contains-append_cases bases (b ∷ []) base among) [ inl before ↦ old base f before comes | inr here ↦ new base f here comes ]
 
-  pub answer_more : (bases : List BaseChain) (b : BaseChain) (r : RuleNo) (x y : Answer) → IsAnswer plant tables bases r x
-      → IsAnswer plant tables (b ∷ []) r y → IsAnswer plant tables (bases ++ b ∷ []) r (better x y)
-  answer_more bases b r Met Met old new = some_more bases b (meets_at plant tables r) old
-  answer_more bases b r Met NotReached old new = some_more bases b (meets_at plant tables r) old
-  answer_more bases b r Met NotMatched old new = some_more bases b (meets_at plant tables r) old
-  answer_more bases b r NotReached Met old new = some_new bases b (meets_at plant tables r) new
-  answer_more bases b r NotMatched Met old new = some_new bases b (meets_at plant tables r) new
-  answer_more bases b r NotReached NotReached old new = none_more bases b (comes_at plant tables r) old new
+  pub answer_more : (bases : List BaseChain) (b : BaseChain) (r : RuleNo) (x y : Answer) → IsAnswer network tables bases r x
+      → IsAnswer network tables (b ∷ []) r y → IsAnswer network tables (bases ++ b ∷ []) r (better x y)
+  answer_more bases b r Met Met old new = some_more bases b (meets_at network tables r) old
+  answer_more bases b r Met NotReached old new = some_more bases b (meets_at network tables r) old
+  answer_more bases b r Met NotMatched old new = some_more bases b (meets_at network tables r) old
+  answer_more bases b r NotReached Met old new = some_new bases b (meets_at network tables r) new
+  answer_more bases b r NotMatched Met old new = some_new bases b (meets_at network tables r) new
+  answer_more bases b r NotReached NotReached old new = none_more bases b (comes_at network tables r) old new
   answer_more bases b r NotReached NotMatched old new = (
-    some_new bases b (comes_at plant tables r) new.0,
-    none_more bases b (meets_at plant tables r) (none_met bases r old) new.1,
+    some_new bases b (comes_at network tables r) new.0,
+    none_more bases b (meets_at network tables r) (none_met bases r old) new.1,
   )
   answer_more bases b r NotMatched NotReached old new = (
-    some_more bases b (comes_at plant tables r) old.0,
-    none_more bases b (meets_at plant tables r) old.1 (none_met (b ∷ []) r new),
+    some_more bases b (comes_at network tables r) old.0,
+    none_more bases b (meets_at network tables r) old.1 (none_met (b ∷ []) r new),
   )
   answer_more bases b r NotMatched NotMatched old new = (
-    some_more bases b (comes_at plant tables r) old.0,
-    none_more bases b (meets_at plant tables r) old.1 new.1,
+    some_more bases b (comes_at network tables r) old.0,
+    none_more bases b (meets_at network tables r) old.1 new.1,
   )

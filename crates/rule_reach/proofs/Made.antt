@@ -48,39 +48,39 @@ ways_kept p interfaces way_of a b d set rules ends is_set ad bd on =
           ∙ on.they_end f test ∙ ap (λ v. v && test (way_of (facts f)).end) (sym (ad.same set f is_set));
     }
 
-module _ (plant : PlantTree) (tables : List TableTree) where
-  pub base_kept : (d e : DiagramsView) (b : BaseChain) (sets : BaseSets) → Keeps d e → AreBaseSets plant tables d b sets
-      → AreBaseSets plant tables e b sets
+module _ (network : PlantTree) (tables : List TableTree) where
+  pub base_kept : (d e : DiagramsView) (b : BaseChain) (sets : BaseSets) → Keeps d e → AreBaseSets network tables d b sets
+      → AreBaseSets network tables e b sets
   base_kept d e b sets k are = record {
     chain = are.chain;
     coming = means_kept d e sets.coming _ k are.coming;
     on_ways = ways_kept _ _ _ d d e sets.coming (sets_of sets.rules) sets.ends.items are.coming.is_set k k are.on_ways;
   }
 
-  pub all_kept : (d e : DiagramsView) (bases : List BaseChain) (sets : List BaseSets) → Keeps d e → AreSetsOf plant tables d bases sets
-      → AreSetsOf plant tables e bases sets
+  pub all_kept : (d e : DiagramsView) (bases : List BaseChain) (sets : List BaseSets) → Keeps d e → AreSetsOf network tables d bases sets
+      → AreSetsOf network tables e bases sets
   all_kept d e [] [] k all = tt
   all_kept d e [] (s ∷ sets) k all = absurd all
   all_kept d e (b ∷ bases) [] k all = absurd all
   all_kept d e (b ∷ bases) (s ∷ sets) k all = (base_kept d e b s k all.0, all_kept d e bases sets k all.1)
 
   pub one_more : (d e : DiagramsView) (bases : List BaseChain) (b : BaseChain) (sets : List BaseSets) (s : BaseSets) → Keeps d e
-      → AreBaseSets plant tables e b s → AreSetsOf plant tables d bases sets → AreSetsOf plant tables e (bases ++ b ∷ []) (sets ++ s ∷ [])
-  one_more d e bases b sets s k are all = all_zipped_more (AreBaseSets plant tables e) bases sets b s (all_kept d e bases sets k all) are
+      → AreBaseSets network tables e b s → AreSetsOf network tables d bases sets → AreSetsOf network tables e (bases ++ b ∷ []) (sets ++ s ∷ [])
+  one_more d e bases b sets s k are all = all_zipped_more (AreBaseSets network tables e) bases sets b s (all_kept d e bases sets k all) are
 
   -- the sets of the ways of all packets that can come to a base chain of this table
-  pub made : (b : BaseChain) (names : TableTree) (d e : DiagramsView) (sets : BaseSets) (interfaces : List Interface) → interfaces ≡ interfaces_of plant
+  pub made : (b : BaseChain) (names : TableTree) (d e : DiagramsView) (sets : BaseSets) (interfaces : List Interface) → interfaces ≡ interfaces_of network
       → slice_get tables b.number.table ≡ Some names → sets.chain ≡ b.number → Keeps d e
       → Means d sets.coming (λ p. can_come b (facts_of interfaces NOTHING p))
-      → ((levels : ℕ) → 256 ≤ levels → AreOnWays (table_program plant b.number.table names) interfaces
-      (way (table_program plant b.number.table names) levels b.number.chain) d e sets.coming (sets_of sets.rules) sets.ends.items)
-      → AreBaseSets plant tables e b sets
+      → ((levels : ℕ) → 256 ≤ levels → AreOnWays (table_program network b.number.table names) interfaces
+      (way (table_program network b.number.table names) levels b.number.chain) d e sets.coming (sets_of sets.rules) sets.ends.items)
+      → AreBaseSets network tables e b sets
   made b names d e sets interfaces same stands named k comes on =
       let table : names ≡ table_at tables b.number.table = sym (get_or_from_slice_get tables b.number.table names _ stands) in
-      let here = subst (λ i. AreOnWays (table_program plant b.number.table names) i (way (table_program plant b.number.table names) LEVELS b.number.chain) d e
+      let here = subst (λ i. AreOnWays (table_program network b.number.table names) i (way (table_program network b.number.table names) LEVELS b.number.chain) d e
       sets.coming (sets_of sets.rules) sets.ends.items) same (on LEVELS enough) in
-      let at = subst (λ t. AreOnWays (table_program plant b.number.table t) (interfaces_of plant)
-      (way (table_program plant b.number.table t) LEVELS b.number.chain) d e sets.coming (sets_of sets.rules) sets.ends.items) table here in
+      let at = subst (λ t. AreOnWays (table_program network b.number.table t) (interfaces_of network)
+      (way (table_program network b.number.table t) LEVELS b.number.chain) d e sets.coming (sets_of sets.rules) sets.ends.items) table here in
       record {
         chain = named;
         coming = means_kept d e sets.coming _ k (subst (λ i. Means d sets.coming (λ p. can_come b (facts_of i NOTHING p))) same comes);

@@ -41,39 +41,39 @@ same-and : (x y : Bool) → x ≡ true → (x && y) ≡ y
 same-and true y e = refl
 same-and false y e = cc
 
-module _ (plant : PlantTree) (tables : List TableTree) (b : BaseChain) (d : DiagramsView) (sets : BaseSets)
-    (w : AreBaseSets plant tables d b sets) where
+module _ (network : PlantTree) (tables : List TableTree) (b : BaseChain) (d : DiagramsView) (sets : BaseSets)
+    (w : AreBaseSets network tables d b sets) where
   pub some_packet : (test : Facts → Bool) (all : BaseChain → Facts → Bool) → ((f : Facts) → all b f ≡ test f) → (p : ℕ → Bool)
-      → (holds d sets.coming p && test (facts_of (interfaces_of plant) NOTHING p)) ≡ true → SomePacket plant tables (b ∷ []) all
+      → (holds d sets.coming p && test (facts_of (interfaces_of network) NOTHING p)) ≡ true → SomePacket network tables (b ∷ []) all
   some_packet test all same p passes =
-      let f = facts_of (interfaces_of plant) NOTHING p in
+      let f = facts_of (interfaces_of network) NOTHING p in
       let parts = and_parts (holds d sets.coming p) (test f) passes in
       record {
         base = b;
         among = (0, omega arith, refl);
         facts = f;
-        comes = record { of_box = bits_of_box (interfaces_of plant) p; can = sym (w.coming.same p) ∙ parts.0 };
+        comes = record { of_box = bits_of_box (interfaces_of network) p; can = sym (w.coming.same p) ∙ parts.0 };
         passes = same f ∙ parts.1;
       }
 
   pub no_packet : (test : Facts → Bool) (all : BaseChain → Facts → Bool) → ((f : Facts) → all b f ≡ test f)
-      → ((p : ℕ → Bool) → (holds d sets.coming p && test (facts_of (interfaces_of plant) NOTHING p)) ≡ false) → NoPacket plant tables (b ∷ []) all
+      → ((p : ℕ → Bool) → (holds d sets.coming p && test (facts_of (interfaces_of network) NOTHING p)) ≡ false) → NoPacket network tables (b ∷ []) all
   no_packet test all same none = λ base f among comes.
       let here = contains_one b base among in
-      let bits = have_bits (interfaces_of plant) f comes.of_box in
+      let bits = have_bits (interfaces_of network) f comes.of_box in
       let can = w.coming.same bits.0 ∙ ap (can_come b) bits.1 ∙ ap (λ x. can_come x f) here ∙ comes.can in
       ap (λ x. all x f) (sym here) ∙ same f ∙ ap test (sym bits.1) ∙ sym (same-and (holds d sets.coming bits.0) _ can) ∙ none bits.0
 
   -- ---- rules
 
-  comes_here : (r : RuleNo) → r.table ≡ b.number.table → (f : Facts) → comes_at plant tables r b f ≡ comes_to r.chain r.rule (base_way plant tables b f)
+  comes_here : (r : RuleNo) → r.table ≡ b.number.table → (f : Facts) → comes_at network tables r b f ≡ comes_to r.chain r.rule (base_way network tables b f)
   comes_here r e f = same-and _ _ (eq-eqb b.number.table r.table (sym e))
 
-  meets_here : (r : RuleNo) → r.table ≡ b.number.table → (f : Facts) → meets_at plant tables r b f
-      ≡ meets (program_at plant tables b.number.table) r.chain r.rule (base_way plant tables b f)
+  meets_here : (r : RuleNo) → r.table ≡ b.number.table → (f : Facts) → meets_at network tables r b f
+      ≡ meets (program_at network tables b.number.table) r.chain r.rule (base_way network tables b f)
   meets_here r e f = same-and _ _ (eq-eqb b.number.table r.table (sym e))
 
-  by_sets : (r : RuleNo) (x : Answer) → r.table ≡ b.number.table → IsAnswerBy d (sets_of sets.rules r.chain r.rule) x → IsAnswer plant tables (b ∷ []) r x
+  by_sets : (r : RuleNo) (x : Answer) → r.table ≡ b.number.table → IsAnswerBy d (sets_of sets.rules r.chain r.rule) x → IsAnswer network tables (b ∷ []) r x
   by_sets r Met e is = some_packet _ _ (meets_here r e) is.0 (sym ((w.on_ways.met r.chain r.rule).same is.0) ∙ is.1)
   by_sets r NotReached e is = no_packet _ _ (comes_here r e) (λ p. sym ((w.on_ways.reached r.chain r.rule).same p) ∙ is p)
   by_sets r NotMatched e is = (
@@ -82,25 +82,25 @@ module _ (plant : PlantTree) (tables : List TableTree) (b : BaseChain) (d : Diag
   )
 
   -- packets of a base chain come to no rule of another table
-  elsewhere : (r : RuleNo) → (r.table ≡ b.number.table → ⊥) → NoPacket plant tables (b ∷ []) (comes_at plant tables r)
+  elsewhere : (r : RuleNo) → (r.table ≡ b.number.table → ⊥) → NoPacket network tables (b ∷ []) (comes_at network tables r)
   elsewhere r apart = λ base f among comes.
       let here = contains_one b base among in
       let other = false_from_ne_true (b.number.table == r.table) (λ yes. apart (sym (eqb-true b.number.table r.table yes))) in
-      ap (λ x. comes_at plant tables r x f) (sym here) ∙ rw other refl
+      ap (λ x. comes_at network tables r x f) (sym here) ∙ rw other refl
 
-  answer_here : (old : RuleReach) (x : Answer) → IsHere d b.number.table (sets_of sets.rules) old x → IsAnswer plant tables (b ∷ []) old.rule x
+  answer_here : (old : RuleReach) (x : Answer) → IsHere d b.number.table (sets_of sets.rules) old x → IsAnswer network tables (b ∷ []) old.rule x
   answer_here old x (inl here) = by_sets old.rule x here.0 here.1
-  answer_here old x (inr there) = subst (IsAnswer plant tables (b ∷ []) old.rule) (sym there.1) (elsewhere old.rule there.0)
+  answer_here old x (inr there) = subst (IsAnswer network tables (b ∷ []) old.rule) (sym there.1) (elsewhere old.rule there.0)
 
   answer_told : (bases : List BaseChain) (old now : RuleReach) → IsTold d b.number.table (sets_of sets.rules) old now
-      → IsAnswer plant tables bases old.rule old.answer → IsAnswer plant tables (bases ++ b ∷ []) now.rule now.answer
+      → IsAnswer network tables bases old.rule old.answer → IsAnswer network tables (bases ++ b ∷ []) now.rule now.answer
   answer_told bases old now told was =
       let more = bases ++ b ∷ [] in
-      subst (λ r. IsAnswer plant tables more r now.answer) (sym told.rule) (subst (IsAnswer plant tables more old.rule) (sym told.both)
-      (answer_more plant tables bases b old.rule old.answer told.answer was (answer_here old told.answer told.is_here)))
+      subst (λ r. IsAnswer network tables more r now.answer) (sym told.rule) (subst (IsAnswer network tables more old.rule) (sym told.both)
+      (answer_more network tables bases b old.rule old.answer told.answer was (answer_here old told.answer told.is_here)))
 
   answers_told : (bases : List BaseChain) (olds nows : List RuleReach) → AllZip (IsTold d b.number.table (sets_of sets.rules)) olds nows
-      → All (λ r. IsAnswer plant tables bases r.rule r.answer) olds → All (λ r. IsAnswer plant tables (bases ++ b ∷ []) r.rule r.answer) nows
+      → All (λ r. IsAnswer network tables bases r.rule r.answer) olds → All (λ r. IsAnswer network tables (bases ++ b ∷ []) r.rule r.answer) nows
   answers_told bases olds nows told was = λ k x lt.
       let same = length_all_zip (IsTold d b.number.table (sets_of sets.rules)) olds nows told in
       let inside : k < length olds = omega arith in
@@ -118,18 +118,18 @@ module _ (plant : PlantTree) (tables : List TableTree) (b : BaseChain) (d : Diag
   end-is None f = refl
   end-is (Some v) f = refl
 
-  ends-are : (p : ℕ → Bool) (es : List ChainEnd) → list_any is_end (map (end_of (interfaces_of plant) p) es) ≡ list_any (λ e. not (is_some e.verdict)) es
+  ends-are : (p : ℕ → Bool) (es : List ChainEnd) → list_any is_end (map (end_of (interfaces_of network) p) es) ≡ list_any (λ e. not (is_some e.verdict)) es
   ends-are p [] = refl
-  ends-are p (e ∷ es) = rw (end-is e.verdict (facts_of (interfaces_of plant) e.written p), ends-are p es) refl
+  ends-are p (e ∷ es) = rw (end-is e.verdict (facts_of (interfaces_of network) e.written p), ends-are p es) refl
 
-  ends_for : (p : ℕ → Bool) → (holds d sets.coming p && is_end (base_way plant tables b (facts_of (interfaces_of plant) NOTHING p)).end) ≡ at_end d sets.ends.items p
+  ends_for : (p : ℕ → Bool) → (holds d sets.coming p && is_end (base_way network tables b (facts_of (interfaces_of network) NOTHING p)).end) ≡ at_end d sets.ends.items p
   ends_for p = sym (w.on_ways.they_end p is_end) ∙ ends-are p (outcomes_for d sets.ends.items p)
 
-  policy_here : (x : Bool) → SomeEnd d sets.ends.items x → Applies plant tables b x
-  policy_here true is = some_packet (ends_at plant tables b) (ends_at plant tables) (λ f. refl) is.0 (ends_for is.0 ∙ is.1)
-  policy_here false is = no_packet (ends_at plant tables b) (ends_at plant tables) (λ f. refl) (λ p. ends_for p ∙ is p)
+  policy_here : (x : Bool) → SomeEnd d sets.ends.items x → Applies network tables b x
+  policy_here true is = some_packet (ends_at network tables b) (ends_at network tables) (λ f. refl) is.0 (ends_for is.0 ∙ is.1)
+  policy_here false is = no_packet (ends_at network tables b) (ends_at network tables) (λ f. refl) (λ p. ends_for p ∙ is p)
 
-  policy_kept : (bases : List BaseChain) (p : PolicyReach) → IsPolicyReach plant tables bases p → IsPolicyReach plant tables (bases ++ b ∷ []) p
+  policy_kept : (bases : List BaseChain) (p : PolicyReach) → IsPolicyReach network tables bases p → IsPolicyReach network tables (bases ++ b ∷ []) p
   policy_kept bases p is = record {
     base = is.base;
     among = Contains-append_left bases (b ∷ []) is.base is.among;
@@ -139,13 +139,13 @@ module _ (plant : PlantTree) (tables : List TableTree) (b : BaseChain) (d : Diag
 
   -- ---- all that is told
 
-  reach_here : (bases : List BaseChain) (old now : Reach) (x : Bool) → IsReach plant tables bases old
+  reach_here : (bases : List BaseChain) (old now : Reach) (x : Bool) → IsReach network tables bases old
       → AllZip (IsTold d b.number.table (sets_of sets.rules)) old.rules.items now.rules.items → SomeEnd d sets.ends.items x
-      → now.policies.items ≡ old.policies.items ++ record { chain = sets.chain; applies = x } ∷ [] → IsReach plant tables (bases ++ b ∷ []) now
+      → now.policies.items ≡ old.policies.items ++ record { chain = sets.chain; applies = x } ∷ [] → IsReach network tables (bases ++ b ∷ []) now
   reach_here bases old now x was told ended pushed =
       let more = bases ++ b ∷ [] in
       let one : PolicyReach = record { chain = sets.chain; applies = x } in
-      let its : IsPolicyReach plant tables more one = record {
+      let its : IsPolicyReach network tables more one = record {
         base = b;
         among = Contains-append_right bases (b ∷ []) b (0, omega arith, refl);
         has_number = sym w.chain;
@@ -156,13 +156,13 @@ module _ (plant : PlantTree) (tables : List TableTree) (b : BaseChain) (d : Diag
         answers = answers_told bases old.rules.items now.rules.items told was.answers;
         policies = ap (map (λ p. p.chain)) pushed ∙ map-append (λ p. p.chain) old.policies.items (one ∷ [])
             ∙ ap (λ l. l ++ sets.chain ∷ []) was.policies ∙ ap (λ n. map (λ c. c.number) bases ++ n ∷ []) w.chain ∙ sym (map-append (λ c. c.number) bases (b ∷ []));
-        applies = subst (All (IsPolicyReach plant tables more)) (sym pushed) (All-push (IsPolicyReach plant tables more) old.policies.items one
-            (All-weaker (IsPolicyReach plant tables bases) (IsPolicyReach plant tables more) (policy_kept bases) old.policies.items was.applies) its);
+        applies = subst (All (IsPolicyReach network tables more)) (sym pushed) (All-push (IsPolicyReach network tables more) old.policies.items one
+            (All-weaker (IsPolicyReach network tables bases) (IsPolicyReach network tables more) (policy_kept bases) old.policies.items was.applies) its);
       }
 
   -- where the sets name the base chain
-  pub reach_more : (bases : List BaseChain) (old now : Reach) (x : Bool) → IsReach plant tables bases old
+  pub reach_more : (bases : List BaseChain) (old now : Reach) (x : Bool) → IsReach network tables bases old
       → AllZip (IsTold d sets.chain.table (sets_of sets.rules)) old.rules.items now.rules.items → SomeEnd d sets.ends.items x
-      → now.policies.items ≡ old.policies.items ++ record { chain = sets.chain; applies = x } ∷ [] → IsReach plant tables (bases ++ b ∷ []) now
+      → now.policies.items ≡ old.policies.items ++ record { chain = sets.chain; applies = x } ∷ [] → IsReach network tables (bases ++ b ∷ []) now
   reach_more bases old now x was told =
       reach_here bases old now x was (subst (λ n. AllZip (IsTold d n.table (sets_of sets.rules)) old.rules.items now.rules.items) w.chain told)

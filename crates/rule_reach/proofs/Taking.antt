@@ -32,12 +32,12 @@ use Rattle.rule_reach.proofs.Packets.{no_packet, some_packet}
 
 -- ---- one more base chain
 
-module _ (plant : PlantTree) (tables : List TableTree) where
-  pub whether_more : (bases : List BaseChain) (b : BaseChain) (test : BaseChain → Facts → Bool) (x y : Bool) → Whether plant tables bases test x
-      → Whether plant tables (b ∷ []) test y → Whether plant tables (bases ++ b ∷ []) test (x || y)
-  whether_more bases b test true y old new = some_more plant tables bases b test old
-  whether_more bases b test false true old new = some_new plant tables bases b test new
-  whether_more bases b test false false old new = none_more plant tables bases b test old new
+module _ (network : PlantTree) (tables : List TableTree) where
+  pub whether_more : (bases : List BaseChain) (b : BaseChain) (test : BaseChain → Facts → Bool) (x y : Bool) → Whether network tables bases test x
+      → Whether network tables (b ∷ []) test y → Whether network tables (bases ++ b ∷ []) test (x || y)
+  whether_more bases b test true y old new = some_more network tables bases b test old
+  whether_more bases b test false true old new = some_new network tables bases b test new
+  whether_more bases b test false false old new = none_more network tables bases b test old new
 
 -- ---- packets of one base chain
 
@@ -55,53 +55,53 @@ same-and : (x y : Bool) → x ≡ true → (x && y) ≡ y
 same-and true y e = refl
 same-and false y e = cc
 
-module _ (plant : PlantTree) (tables : List TableTree) (b : BaseChain) (d : DiagramsView) (sets : BaseSets)
-    (w : AreBaseSets plant tables d b sets) (r : RuleNo) (alone : PacketSet) (means : MeansAlone plant tables d r alone) (k : ℕ) where
+module _ (network : PlantTree) (tables : List TableTree) (b : BaseChain) (d : DiagramsView) (sets : BaseSets)
+    (w : AreBaseSets network tables d b sets) (r : RuleNo) (alone : PacketSet) (means : MeansAlone network tables d r alone) (k : ℕ) where
   abbrev by_rule : Facts → Bool
-  by_rule f = meets_alone (program_at plant tables r.table) r f
+  by_rule f = meets_alone (program_at network tables r.table) r f
 
   abbrev comes_by : ℕ → Facts → Bool
-  comes_by n f = comes_to r.chain n (base_way plant tables b f)
+  comes_by n f = comes_to r.chain n (base_way network tables b f)
 
-  come_is : b.number.table ≡ r.table → (f : Facts) → comes_for plant tables r k b f ≡ (by_rule f && comes_by k f)
+  come_is : b.number.table ≡ r.table → (f : Facts) → comes_for network tables r k b f ≡ (by_rule f && comes_by k f)
   come_is e f = rw (eq-eqb b.number.table r.table e) refl
 
-  end_is : b.number.table ≡ r.table → (f : Facts) → takes plant tables r k b f ≡ ((by_rule f && comes_by k f) && not (comes_by (k + 1) f))
+  end_is : b.number.table ≡ r.table → (f : Facts) → takes network tables r k b f ≡ ((by_rule f && comes_by k f) && not (comes_by (k + 1) f))
   end_is e f = rw (eq-eqb b.number.table r.table e) refl
 
   whether : (test : Facts → Bool) (all : BaseChain → Facts → Bool) → ((f : Facts) → all b f ≡ test f) → (e : DiagramsView) (set : PacketSet)
-      → ((p : ℕ → Bool) → holds e set p ≡ (holds d sets.coming p && test (facts_of (interfaces_of plant) NOTHING p))) → (x : Bool) → HasPacket e set x
-      → Whether plant tables (b ∷ []) all x
-  whether test all same e set is true has = some_packet plant tables b d sets w test all same has.0 (sym (is has.0) ∙ has.1)
-  whether test all same e set is false none = no_packet plant tables b d sets w test all same (λ p. sym (is p) ∙ none p)
+      → ((p : ℕ → Bool) → holds e set p ≡ (holds d sets.coming p && test (facts_of (interfaces_of network) NOTHING p))) → (x : Bool) → HasPacket e set x
+      → Whether network tables (b ∷ []) all x
+  whether test all same e set is true has = some_packet network tables b d sets w test all same has.0 (sym (is has.0) ∙ has.1)
+  whether test all same e set is false none = no_packet network tables b d sets w test all same (λ p. sym (is p) ∙ none p)
 
   -- the set of those that come, in later diagrams
   come_holds : (e : DiagramsView) (come : PacketSet)
       → Means e come (λ p. holds d alone p && holds d (sets_of sets.rules r.chain k).reached p) → (p : ℕ → Bool)
-      → holds e come p ≡ (holds d sets.coming p && (by_rule (facts_of (interfaces_of plant) NOTHING p) && comes_by k (facts_of (interfaces_of plant) NOTHING p)))
+      → holds e come p ≡ (holds d sets.coming p && (by_rule (facts_of (interfaces_of network) NOTHING p) && comes_by k (facts_of (interfaces_of network) NOTHING p)))
   come_holds e come is p =
-      let f = facts_of (interfaces_of plant) NOTHING p in
+      let f = facts_of (interfaces_of network) NOTHING p in
       is.same p ∙ ap (λ x. x && holds d (sets_of sets.rules r.chain k).reached p) (means.same p)
       ∙ ap (λ x. by_rule f && x) ((w.on_ways.reached r.chain k).same p)
       ∙ come-bits (holds d sets.coming p) (by_rule f) (comes_by k f)
 
   pub come_here : sets.chain.table ≡ r.table → (e g : DiagramsView) (come : PacketSet) → Keeps e g
       → Means e come (λ p. holds d alone p && holds d (sets_of sets.rules r.chain k).reached p) → (x : Bool) → HasPacket g come x
-      → Whether plant tables (b ∷ []) (comes_for plant tables r k) x
+      → Whether network tables (b ∷ []) (comes_for network tables r k) x
   come_here here e g come eg is x has =
       let table : b.number.table ≡ r.table = ap (λ n. n.table) (sym w.chain) ∙ here in
-      whether (λ f. by_rule f && comes_by k f) (comes_for plant tables r k) (come_is table) g come
+      whether (λ f. by_rule f && comes_by k f) (comes_for network tables r k) (come_is table) g come
       (λ p. eg.same come p is.is_set ∙ come_holds e come is p) x has
 
   pub end_here : sets.chain.table ≡ r.table → (e g : DiagramsView) (come end : PacketSet) → Keeps d e
       → Means e come (λ p. holds d alone p && holds d (sets_of sets.rules r.chain k).reached p)
       → Means g end (λ p. holds e come p && not (holds e (sets_of sets.rules r.chain (k + 1)).reached p)) → (x : Bool) → HasPacket g end x
-      → Whether plant tables (b ∷ []) (takes plant tables r k) x
+      → Whether network tables (b ∷ []) (takes network tables r k) x
   end_here here e g come end de is ended x has =
       let table : b.number.table ≡ r.table = ap (λ n. n.table) (sym w.chain) ∙ here in
       let next = (sets_of sets.rules r.chain (k + 1)).reached in
-      whether (λ f. (by_rule f && comes_by k f) && not (comes_by (k + 1) f)) (takes plant tables r k) (end_is table) g end
-      (λ p. let f = facts_of (interfaces_of plant) NOTHING p in
+      whether (λ f. (by_rule f && comes_by k f) && not (comes_by (k + 1) f)) (takes network tables r k) (end_is table) g end
+      (λ p. let f = facts_of (interfaces_of network) NOTHING p in
       ended.same p ∙ ap (λ x. x && not (holds e next p))
       (is.same p ∙ ap (λ x. x && holds d (sets_of sets.rules r.chain k).reached p) (means.same p)
       ∙ ap (λ x. by_rule f && x) ((w.on_ways.reached r.chain k).same p))
@@ -114,13 +114,13 @@ module _ (plant : PlantTree) (tables : List TableTree) (b : BaseChain) (d : Diag
   apart other = false_from_ne_true (b.number.table == r.table)
       (λ yes. other (ap (λ n. n.table) w.chain ∙ eqb-true b.number.table r.table yes))
 
-  pub come_elsewhere : (sets.chain.table ≡ r.table → ⊥) → NoPacket plant tables (b ∷ []) (comes_for plant tables r k)
+  pub come_elsewhere : (sets.chain.table ≡ r.table → ⊥) → NoPacket network tables (b ∷ []) (comes_for network tables r k)
   come_elsewhere other = λ base f among comes.
-      ap (λ x. comes_for plant tables r k x f) (sym (contains_one b base among)) ∙ rw (apart other) refl
+      ap (λ x. comes_for network tables r k x f) (sym (contains_one b base among)) ∙ rw (apart other) refl
 
-  pub end_elsewhere : (sets.chain.table ≡ r.table → ⊥) → NoPacket plant tables (b ∷ []) (takes plant tables r k)
+  pub end_elsewhere : (sets.chain.table ≡ r.table → ⊥) → NoPacket network tables (b ∷ []) (takes network tables r k)
   end_elsewhere other = λ base f among comes.
-      ap (λ x. takes plant tables r k x f) (sym (contains_one b base among)) ∙ rw (apart other) refl
+      ap (λ x. takes network tables r k x f) (sym (contains_one b base among)) ∙ rw (apart other) refl
 
 -- ---- rising numbers
 
@@ -141,12 +141,12 @@ rising_more xs y rising above = λ i inside.
 
 -- ---- the numbers of takers, as far as the walk along the chain has come
 
-module _ (plant : PlantTree) (tables : List TableTree) (bases : List BaseChain) (r : RuleNo) where
+module _ (network : PlantTree) (tables : List TableTree) (bases : List BaseChain) (r : RuleNo) where
   -- of the rules before number k
   pub record TakersTo (k : ℕ) (numbers : List ℕ) : Type 0 where
     pub rising : IsStrictlyIncreasing numbers
-    pub some : (j : ℕ) → Contains numbers j → (1 ≤ j) × (j < k) × SomePacket plant tables bases (takes plant tables r j)
-    pub all : (j : ℕ) → 1 ≤ j → j < k → SomePacket plant tables bases (takes plant tables r j) → Contains numbers j
+    pub some : (j : ℕ) → Contains numbers j → (1 ≤ j) × (j < k) × SomePacket network tables bases (takes network tables r j)
+    pub all : (j : ℕ) → 1 ≤ j → j < k → SomePacket network tables bases (takes network tables r j) → Contains numbers j
 
   pub takers_none : TakersTo 1 []
   takers_none = record {
@@ -155,59 +155,59 @@ module _ (plant : PlantTree) (tables : List TableTree) (bases : List BaseChain) 
     all = λ j low under s. absurd (omega (arith, low, under));
   }
 
-  none_and_some : (test : BaseChain → Facts → Bool) → NoPacket plant tables bases test → SomePacket plant tables bases test → ⊥
+  none_and_some : (test : BaseChain → Facts → Bool) → NoPacket network tables bases test → SomePacket network tables bases test → ⊥
   none_and_some test none s = let e = sym (none s.base s.facts s.among s.comes) ∙ s.passes in absurd (cc)
 
   all_to : (k : ℕ) (old new : List ℕ) → ((j : ℕ) → Contains old j → Contains new j)
-      → (SomePacket plant tables bases (takes plant tables r k) → Contains new k) → TakersTo k old
-      → (j : ℕ) → 1 ≤ j → j < k + 1 → SomePacket plant tables bases (takes plant tables r j) → Contains new j
+      → (SomePacket network tables bases (takes network tables r k) → Contains new k) → TakersTo k old
+      → (j : ℕ) → 1 ≤ j → j < k + 1 → SomePacket network tables bases (takes network tables r j) → Contains new j
   all_to k old new kept at so_far j low under s = elim (cases_order j k) [
-    | inl same ↦ subst (Contains new) (sym same) (at (subst (λ n. SomePacket plant tables bases (takes plant tables r n)) same s))
+    | inl same ↦ subst (Contains new) (sym same) (at (subst (λ n. SomePacket network tables bases (takes network tables r n)) same s))
     | inr away ↦ elim away [
       | inl before ↦ kept j (so_far.all j low before s)
       | inr behind ↦ absurd (omega (arith, behind, under))
     ]
   ]
 
-  pub not_a_taker : (k : ℕ) (numbers : List ℕ) → NoPacket plant tables bases (takes plant tables r k) → TakersTo k numbers → TakersTo (k + 1) numbers
+  pub not_a_taker : (k : ℕ) (numbers : List ℕ) → NoPacket network tables bases (takes network tables r k) → TakersTo k numbers → TakersTo (k + 1) numbers
   not_a_taker k numbers none so_far = record {
     rising = so_far.rising;
     some = λ j has. let is = so_far.some j has in let under = is.1 in (is.0, omega arith, is.2);
     all = all_to k numbers numbers (λ j has. has) (λ s. absurd (none_and_some _ none s)) so_far;
   }
 
-  pub a_taker : (k : ℕ) (numbers new : List ℕ) → 1 ≤ k → SomePacket plant tables bases (takes plant tables r k) → new ≡ numbers ++ k ∷ []
+  pub a_taker : (k : ℕ) (numbers new : List ℕ) → 1 ≤ k → SomePacket network tables bases (takes network tables r k) → new ≡ numbers ++ k ∷ []
       → TakersTo k numbers → TakersTo (k + 1) new
   a_taker k numbers new low s pushed so_far = subst (TakersTo (k + 1)) (sym pushed) (record {
     rising = rising_more numbers k so_far.rising (λ j has. (so_far.some j has).1);
     some = λ j has. elim (Contains-push_cases numbers k j has) [
       | inl before ↦ let is = so_far.some j before in let under = is.1 in (is.0, omega arith, is.2)
-      | inr at ↦ subst (λ n. (1 ≤ n) × (n < k + 1) × SomePacket plant tables bases (takes plant tables r n)) at (low, omega arith, s)
+      | inr at ↦ subst (λ n. (1 ≤ n) × (n < k + 1) × SomePacket network tables bases (takes network tables r n)) at (low, omega arith, s)
     ];
     all = all_to k numbers (numbers ++ k ∷ []) (λ j has. Contains-append_left numbers (k ∷ []) j has) (λ s. Contains-push numbers k) so_far;
   })
 
   -- behind a rule to which none comes, none comes to any
-  none_later : (k j : ℕ) → 1 ≤ k → k ≤ j → NoPacket plant tables bases (comes_for plant tables r k)
-      → SomePacket plant tables bases (takes plant tables r j) → ⊥
+  none_later : (k j : ℕ) → 1 ≤ k → k ≤ j → NoPacket network tables bases (comes_for network tables r k)
+      → SomePacket network tables bases (takes network tables r j) → ⊥
   none_later k j low under none s =
       let b = s.base in
       let f = s.facts in
-      let parts = and_parts (comes_for plant tables r j b f) _ s.passes in
-      let would = and_parts _ (comes_at plant tables (rule_beside r j) b f) parts.0 in
-      let here = and_parts (b.number.table == r.table) (comes_to r.chain j (base_way plant tables b f)) would.1 in
-      let earlier = comes_earlier (program_at plant tables b.number.table) LEVELS b.number.chain f r.chain k j low under here.1 in
-      none_and_some (comes_for plant tables r k) none (record {
+      let parts = and_parts (comes_for network tables r j b f) _ s.passes in
+      let would = and_parts _ (comes_at network tables (rule_beside r j) b f) parts.0 in
+      let here = and_parts (b.number.table == r.table) (comes_to r.chain j (base_way network tables b f)) would.1 in
+      let earlier = comes_earlier (program_at network tables b.number.table) LEVELS b.number.chain f r.chain k j low under here.1 in
+      none_and_some (comes_for network tables r k) none (record {
         base = b;
         among = s.among;
         facts = f;
         comes = s.comes;
-        passes = both_so (would_meet plant tables r b f) (comes_at plant tables (rule_beside r k) b f) would.0
-            (both_so (b.number.table == r.table) (comes_to r.chain k (base_way plant tables b f)) here.0 earlier);
+        passes = both_so (would_meet network tables r b f) (comes_at network tables (rule_beside r k) b f) would.0
+            (both_so (b.number.table == r.table) (comes_to r.chain k (base_way network tables b f)) here.0 earlier);
       })
 
-  pub none_left : (k : ℕ) (numbers : List ℕ) → 1 ≤ k → k < r.rule → NoPacket plant tables bases (comes_for plant tables r k) → TakersTo k numbers
-      → AreTakers plant tables bases r numbers
+  pub none_left : (k : ℕ) (numbers : List ℕ) → 1 ≤ k → k < r.rule → NoPacket network tables bases (comes_for network tables r k) → TakersTo k numbers
+      → AreTakers network tables bases r numbers
   none_left k numbers low inside none so_far = record {
     rising = so_far.rising;
     all = λ j. (
@@ -222,7 +222,7 @@ module _ (plant : PlantTree) (tables : List TableTree) (bases : List BaseChain) 
     );
   }
 
-  pub takers_all : (k : ℕ) (numbers : List ℕ) → r.rule ≤ k → k ≤ max 1 r.rule → TakersTo k numbers → AreTakers plant tables bases r numbers
+  pub takers_all : (k : ℕ) (numbers : List ℕ) → r.rule ≤ k → k ≤ max 1 r.rule → TakersTo k numbers → AreTakers network tables bases r numbers
   takers_all k numbers past within so_far = record {
     rising = so_far.rising;
     all = λ j. (

@@ -8,4 +8,4 @@ use Rattle.rule_reach.specs.Reach.{run_chains}
 
 -- more than packets are told of, from a base chain on to which packets come
 abbrev pub NestsTooDeep : PlantTree → List TableTree → Type 0
-NestsTooDeep plant tables = SomeNestsOver LEVELS plant tables (run_chains tables)
+NestsTooDeep network tables = SomeNestsOver LEVELS network tables (run_chains tables)

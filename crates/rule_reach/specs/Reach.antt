@@ -47,8 +47,8 @@ run_chains tables = filter runs (base_chains_of tables)
 -- ---- packets that come
 
 -- a packet with these facts comes to the base chain
-pub record Comes (plant : PlantTree) (b : BaseChain) (f : Facts) : Type 0 where
-  pub of_box : IsOfBox (interfaces_of plant) f
+pub record Comes (network : PlantTree) (b : BaseChain) (f : Facts) : Type 0 where
+  pub of_box : IsOfBox (interfaces_of network) f
   pub can : can_come b f ≡ true
 
 -- ---- what packets do
@@ -57,31 +57,31 @@ abbrev pub is_end : WayEnd → Bool
 is_end (ended f) = true
 is_end (over verdict f) = false
 
-module _ (plant : PlantTree) (tables : List TableTree) where
+module _ (network : PlantTree) (tables : List TableTree) where
   -- in the base chain a packet with these facts comes to the rule
   abbrev pub comes_at : RuleNo → BaseChain → Facts → Bool
-  comes_at r b f = (b.number.table == r.table) && comes_to r.chain r.rule (base_way plant tables b f)
+  comes_at r b f = (b.number.table == r.table) && comes_to r.chain r.rule (base_way network tables b f)
 
   -- and meets its last statement
   abbrev pub meets_at : RuleNo → BaseChain → Facts → Bool
   meets_at r b f =
       (b.number.table == r.table)
-      && meets (program_at plant tables b.number.table) r.chain r.rule (base_way plant tables b f)
+      && meets (program_at network tables b.number.table) r.chain r.rule (base_way network tables b f)
 
   -- it comes to the base chain's end, so that its policy applies
   abbrev pub ends_at : BaseChain → Facts → Bool
-  ends_at b f = is_end (base_way plant tables b f).end
+  ends_at b f = is_end (base_way network tables b f).end
 
   -- some packet that comes to one of the base chains passes the test
   pub record SomePacket (bases : List BaseChain) (test : BaseChain → Facts → Bool) : Type 0 where
     pub base : BaseChain
     pub among : Contains bases base
     pub facts : Facts
-    pub comes : Comes plant base facts
+    pub comes : Comes network base facts
     pub passes : test base facts ≡ true
 
   abbrev pub NoPacket : List BaseChain → (BaseChain → Facts → Bool) → Type 0
-  NoPacket bases test = (base : BaseChain) (facts : Facts) → Contains bases base → Comes plant base facts
+  NoPacket bases test = (base : BaseChain) (facts : Facts) → Contains bases base → Comes network base facts
       → test base facts ≡ false
 
   -- the answer holds of the rule, as far as these base chains are concerned

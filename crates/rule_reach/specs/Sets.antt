@@ -16,14 +16,14 @@ use Rattle.coming_sets.specs.Coming.{can_come}
 use Rattle.rule_reach.specs.Reach.{run_chains}
 use Rattle.chain_ways.specs.BaseWays.{base_way, program_at}
 
-module _ (plant : PlantTree) (tables : List TableTree) where
+module _ (network : PlantTree) (tables : List TableTree) where
   -- of these diagrams, the sets are those of the base chain: the packets that can come to it, and on their ways
   -- through it those that come to each rule and meet its last statement, and all ends
   pub record AreBaseSets (d : DiagramsView) (b : BaseChain) (sets : BaseSets) : Type 0 where
     pub chain : sets.chain ≡ b.number
-    pub coming : Means d sets.coming (λ packet. can_come b (facts_of (interfaces_of plant) NOTHING packet))
-    pub on_ways : AreOnWays (program_at plant tables b.number.table) (interfaces_of plant)
-        (base_way plant tables b) d d sets.coming (sets_of sets.rules) sets.ends.items
+    pub coming : Means d sets.coming (λ packet. can_come b (facts_of (interfaces_of network) NOTHING packet))
+    pub on_ways : AreOnWays (program_at network tables b.number.table) (interfaces_of network)
+        (base_way network tables b) d d sets.coming (sets_of sets.rules) sets.ends.items
 
   -- they are those of these base chains, one after another
   abbrev pub AreSetsOf : DiagramsView → List BaseChain → List BaseSets → Type 0

@@ -41,30 +41,30 @@ meets_alone p r f = meets_statements p r (numbered (unwrap_or (p.rules_at r.chai
 abbrev pub rule_beside : RuleNo → ℕ → RuleNo
 rule_beside r k = record { table = r.table; chain = r.chain; rule = k }
 
-module _ (plant : PlantTree) (tables : List TableTree) where
+module _ (network : PlantTree) (tables : List TableTree) where
   -- a packet would meet the rule with the facts with which it came to this base chain of the rule's table
   abbrev pub would_meet : RuleNo → BaseChain → Facts → Bool
-  would_meet r b f = (b.number.table == r.table) && meets_alone (program_at plant tables r.table) r f
+  would_meet r b f = (b.number.table == r.table) && meets_alone (program_at network tables r.table) r f
 
   -- and it comes to rule k of the rule's chain
   abbrev pub comes_for : RuleNo → ℕ → BaseChain → Facts → Bool
-  comes_for r k b f = would_meet r b f && comes_at plant tables (rule_beside r k) b f
+  comes_for r k b f = would_meet r b f && comes_at network tables (rule_beside r k) b f
 
   -- rule k takes it: it comes to rule k and not to the next, so that its way through the chain ended there, by a
   -- verdict of the rule or in a chain that the rule jumped to
   abbrev pub takes : RuleNo → ℕ → BaseChain → Facts → Bool
-  takes r k b f = comes_for r k b f && not (comes_at plant tables (rule_beside r (k + 1)) b f)
+  takes r k b f = comes_for r k b f && not (comes_at network tables (rule_beside r (k + 1)) b f)
 
   -- whether some packet of these base chains passes the test
   abbrev pub Whether : List BaseChain → (BaseChain → Facts → Bool) → Bool → Type 0
-  Whether bases test true = SomePacket plant tables bases test
-  Whether bases test false = NoPacket plant tables bases test
+  Whether bases test true = SomePacket network tables bases test
+  Whether bases test false = NoPacket network tables bases test
 
   -- rule k stands before the rule, and takes some packet of these base chains that would meet the rule
   pub record IsTaker (bases : List BaseChain) (r : RuleNo) (k : ℕ) : Type 0 where
     pub from_first : 1 ≤ k
     pub before : k < r.rule
-    pub takes_some : SomePacket plant tables bases (takes r k)
+    pub takes_some : SomePacket network tables bases (takes r k)
 
   -- the numbers are those of all such rules, in order
   pub record AreTakers (bases : List BaseChain) (r : RuleNo) (numbers : List ℕ) : Type 0 where

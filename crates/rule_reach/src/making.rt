@@ -50,22 +50,22 @@ fn add_base(
     base: Base<'_>,
     bases: &mut Vec<BaseSets>,
 ) -> Result<(), ReachError>
-    requires declared { HasDeclared place.setting.plant.now place.setting.names.now lookups.old }
+    requires declared { HasDeclared place.setting.network.now place.setting.names.now lookups.old }
     requires types { table_mismatches place.setting.names.now ≡ false }
     requires bounds { list_any item_out_of_range place.setting.names.now.items ≡ false }
-    requires interfaces { place.interfaces.now ≡ interfaces_of place.setting.plant.now }
+    requires interfaces { place.interfaces.now ≡ interfaces_of place.setting.network.now }
     ensures extends { OnOk result (Extends lookups.old lookups.new) }
     ensures sets { OnOk result ((tables : List TableTree) (before : List BaseChain)
         → slice_get tables base.entry.number.table ≡ Some place.entry.setting.names.now
-        → AreSetsOf place.entry.setting.plant.now tables diagrams.old before bases.old.items
-        → AreSetsOf place.entry.setting.plant.now tables diagrams.new
+        → AreSetsOf place.entry.setting.network.now tables diagrams.old before bases.old.items
+        → AreSetsOf place.entry.setting.network.now tables diagrams.new
         (before ++ base_chain base.entry ∷ []) bases.new.items) }
     ensures limit { diagrams.new.limit ≡ diagrams.old.limit }
     ensures too_large { IfErr result (λ e. e ≡ TooLarge
         → diagrams.new.limit ≤ length diagrams.new.nodes) }
     ensures too_deep { IfErr result (λ e. e ≡ TooDeep → (tables : List TableTree)
         → slice_get tables base.entry.number.table ≡ Some place.entry.setting.names.now
-        → SomeNestsOver LEVELS place.entry.setting.plant.now tables (base_chain base.entry ∷ [])) }
+        → SomeNestsOver LEVELS place.entry.setting.network.now tables (base_chain base.entry ∷ [])) }
 {
     let interfaces = place.interfaces;
     let reader = Reader {
@@ -102,15 +102,15 @@ fn add_chain(
     chain: &Chain,
     bases: &mut Vec<BaseSets>,
 ) -> Result<(), ReachError>
-    requires declared { HasDeclared place.setting.plant.now place.setting.names.now lookups.old }
+    requires declared { HasDeclared place.setting.network.now place.setting.names.now lookups.old }
     requires types { table_mismatches place.setting.names.now ≡ false }
     requires bounds { list_any item_out_of_range place.setting.names.now.items ≡ false }
-    requires interfaces { place.interfaces.now ≡ interfaces_of place.setting.plant.now }
+    requires interfaces { place.interfaces.now ≡ interfaces_of place.setting.network.now }
     ensures extends { OnOk result (Extends lookups.old lookups.new) }
     ensures sets { OnOk result ((tables : List TableTree) (before : List BaseChain)
         → slice_get tables number.table ≡ Some place.entry.setting.names.now
-        → AreSetsOf place.entry.setting.plant.now tables diagrams.old before bases.old.items
-        → AreSetsOf place.entry.setting.plant.now tables diagrams.new
+        → AreSetsOf place.entry.setting.network.now tables diagrams.old before bases.old.items
+        → AreSetsOf place.entry.setting.network.now tables diagrams.new
         (before ++ filter runs (base_chain_of number.table number.chain (chain_tree chain.now).head))
         bases.new.items) }
     ensures limit { diagrams.new.limit ≡ diagrams.old.limit }
@@ -118,7 +118,7 @@ fn add_chain(
         → diagrams.new.limit ≤ length diagrams.new.nodes) }
     ensures too_deep { IfErr result (λ e. e ≡ TooDeep → (tables : List TableTree)
         → slice_get tables number.table ≡ Some place.entry.setting.names.now
-        → SomeNestsOver LEVELS place.entry.setting.plant.now tables
+        → SomeNestsOver LEVELS place.entry.setting.network.now tables
         (filter runs (base_chain_of number.table number.chain (chain_tree chain.now).head))) }
 {
     let Some(head) = &chain.head else {
@@ -141,11 +141,11 @@ fn add_table(
 ) -> Result<(), ReachError>
     requires types { table_mismatches place.setting.names.now ≡ false }
     requires bounds { list_any item_out_of_range place.setting.names.now.items ≡ false }
-    requires interfaces { place.interfaces.now ≡ interfaces_of place.setting.plant.now }
+    requires interfaces { place.interfaces.now ≡ interfaces_of place.setting.network.now }
     ensures sets { OnOk result ((tables : List TableTree) (before : List BaseChain)
         → slice_get tables table ≡ Some place.entry.setting.names.now
-        → AreSetsOf place.entry.setting.plant.now tables diagrams.old before bases.old.items
-        → AreSetsOf place.entry.setting.plant.now tables diagrams.new (before
+        → AreSetsOf place.entry.setting.network.now tables diagrams.old before bases.old.items
+        → AreSetsOf place.entry.setting.network.now tables diagrams.new (before
         ++ filter runs (base_chains_from table 0 (chains_of place.entry.setting.names.now)))
         bases.new.items) }
     ensures limit { diagrams.new.limit ≡ diagrams.old.limit }
@@ -153,11 +153,11 @@ fn add_table(
         → diagrams.new.limit ≤ length diagrams.new.nodes) }
     ensures too_deep { IfErr result (λ e. e ≡ TooDeep → (tables : List TableTree)
         → slice_get tables table ≡ Some place.entry.setting.names.now
-        → SomeNestsOver LEVELS place.entry.setting.plant.now tables
+        → SomeNestsOver LEVELS place.entry.setting.network.now tables
         (filter runs (base_chains_from table 0 (chains_of place.entry.setting.names.now)))) }
 {
     let names = place.setting.names;
-    let mut lookups = declared(alloc, place.setting.plant, names)?;
+    let mut lookups = declared(alloc, place.setting.network, names)?;
     for (index, chain) in names.chains().iter().enumerate() {
         let number = ChainNo {
             table,
@@ -174,22 +174,22 @@ fn bases_by(
     diagrams: &mut Diagrams,
     checked: &Checked,
 ) -> Result<Vec<BaseSets>, ReachError>
-    requires { WellFormed checked.now.rules checked.now.plant }
-    ensures sets { IfOk result (λ bases. AreSetsOf checked.now.plant checked.now.rules diagrams.new
+    requires { WellFormed checked.now.rules checked.now.network }
+    ensures sets { IfOk result (λ bases. AreSetsOf checked.now.network checked.now.rules diagrams.new
         (run_chains checked.now.rules) bases.items) }
     ensures limit { diagrams.new.limit ≡ diagrams.old.limit }
     ensures too_large { IfErr result (λ e. e ≡ TooLarge
         → diagrams.new.limit ≤ length diagrams.new.nodes) }
     ensures too_deep { IfErr result (λ e. e ≡ TooDeep
-        → NestsTooDeep checked.now.plant checked.now.rules) }
+        → NestsTooDeep checked.now.network checked.now.rules) }
 {
-    let plant = checked.plant();
+    let network = checked.plant();
     let tables = checked.names(alloc)?;
-    let interfaces = box_interfaces(alloc, plant)?;
+    let interfaces = box_interfaces(alloc, network)?;
     let mut bases = Vec::new(alloc);
     for (table, names) in tables.iter().enumerate() {
         let place = Place {
-            setting: Setting { plant, names },
+            setting: Setting { network, names },
             interfaces: &interfaces,
         };
         add_table(alloc, diagrams, place, to_u32(table)?, &mut bases)?;
@@ -207,10 +207,10 @@ fn bases_by(
 /// `TooLarge` where more nodes are needed than the limit allows, `TooDeep` where jumps and gotos lead
 /// through more than 256 chains, `Memory` where an allocation failed.
 pub fn reach_sets(alloc: Global, checked: &Checked, limit: u32) -> Result<ReachSets, ReachError>
-    ensures sets { IfOk result (AreReachSets checked.now.plant checked.now.rules) }
+    ensures sets { IfOk result (AreReachSets checked.now.network checked.now.rules) }
     ensures limit { IfOk result (λ sets. sets.diagrams.limit ≡ limit) }
     ensures too_deep { IfErr result (λ e. e ≡ TooDeep
-        → NestsTooDeep checked.now.plant checked.now.rules) }
+        → NestsTooDeep checked.now.network checked.now.rules) }
 {
     checked.known_bounds();
     let mut diagrams = Diagrams::new(alloc, limit)?;

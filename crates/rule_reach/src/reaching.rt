@@ -27,9 +27,9 @@ fn add_base(
 ) -> Result<(), AllocError>
     requires rules { AreRuleSets diagrams.now (sets_of sets.now.rules) }
     requires ends { AreCases diagrams.now sets.now.ends.items }
-    ensures { OnOk result ((plant : PlantTree) (tables : List TableTree) (bases : List BaseChain)
-        (b : BaseChain) → AreBaseSets plant tables diagrams.now b sets.now
-        → IsReach plant tables bases reach.old → IsReach plant tables (bases ++ b ∷ []) reach.new) }
+    ensures { OnOk result ((network : PlantTree) (tables : List TableTree) (bases : List BaseChain)
+        (b : BaseChain) → AreBaseSets network tables diagrams.now b sets.now
+        → IsReach network tables bases reach.old → IsReach network tables (bases ++ b ∷ []) reach.new) }
 {
     let chain = sets.chain;
     reach.rules = all_told(alloc, diagrams, chain.table, &sets.rules, &reach.rules)?;
@@ -47,14 +47,14 @@ impl ReachSets {
     ///
     /// `AllocError` where an allocation failed.
     pub fn reach(&self, alloc: Global, checked: &Checked) -> Result<Reach, AllocError>
-        requires { AreReachSets checked.now.plant checked.now.rules self.now }
+        requires { AreReachSets checked.now.network checked.now.rules self.now }
         ensures rules { IfOk result (λ reach.
             map (λ r. r.rule) reach.rules.items ≡ rules_of checked.now.rules) }
-        ensures answers { IfOk result (λ reach. All (λ r. IsAnswer checked.now.plant checked.now.rules
+        ensures answers { IfOk result (λ reach. All (λ r. IsAnswer checked.now.network checked.now.rules
             (run_chains checked.now.rules) r.rule r.answer) reach.rules.items) }
         ensures policies { IfOk result (λ reach. map (λ p. p.chain) reach.policies.items
             ≡ map (λ b. b.number) (run_chains checked.now.rules)) }
-        ensures applies { IfOk result (λ reach. All (IsPolicyReach checked.now.plant
+        ensures applies { IfOk result (λ reach. All (IsPolicyReach checked.now.network
             checked.now.rules (run_chains checked.now.rules)) reach.policies.items) }
     {
         let tables = checked.names(alloc)?;

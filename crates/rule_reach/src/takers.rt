@@ -40,7 +40,7 @@ use std::alloc::Global;
 /// The tables of a ruleset on its box, and the sets of its base chains.
 #[derive(Clone, Copy)]
 pub(crate) struct Told<'a, 't> {
-    pub(crate) plant: &'a Plant,
+    pub(crate) network: &'a Plant,
     pub(crate) tables: &'a [TableNames<'t>],
     pub(crate) interfaces: &'a Interfaces,
     pub(crate) bases: &'a [BaseSets],
@@ -76,14 +76,14 @@ fn met_alone(
     rule: RuleNo,
     stmts: &[Stmt],
 ) -> Result<PacketSet, SetError>
-    requires declared { HasDeclared setting.plant.now setting.names.now lookups.old }
+    requires declared { HasDeclared setting.network.now setting.names.now lookups.old }
     requires types { list_any (statement_mismatches setting.names.now) (map statement stmts.now)
         ≡ false }
     requires bounds { list_any statement_out_of_range (map statement stmts.now) ≡ false }
     ensures keeps { Keeps diagrams.old diagrams.new }
     ensures extends { OnOk result (Extends lookups.old lookups.new) }
     ensures value { IfOk result (λ set. Means diagrams.new set (λ packet.
-        (rule_end (table_program setting.entry.plant.now rule.table setting.entry.names.now)
+        (rule_end (table_program setting.entry.network.now rule.table setting.entry.names.now)
         rule.chain rule.rule 1 (map statement stmts.now)
         (facts_of interfaces.now NOTHING packet)).met)) }
     ensures too_large { IfErr result (λ e. e ≡ TooLarge
@@ -114,14 +114,14 @@ fn at_base(
     requires sets { AreRuleSets diagrams.old (sets_of base.now.rules) }
     requires number { number + 1 < 2 ^ 32 }
     ensures keeps { Keeps diagrams.old diagrams.new }
-    ensures come { IfOk result (λ at. (plant : PlantTree) (tables : List TableTree) (b : BaseChain)
-        → MeansAlone plant tables diagrams.old rule alone
-        → AreBaseSets plant tables diagrams.old b base.now
-        → Whether plant tables (b ∷ []) (comes_for plant tables rule number) at.come) }
-    ensures end { IfOk result (λ at. (plant : PlantTree) (tables : List TableTree) (b : BaseChain)
-        → MeansAlone plant tables diagrams.old rule alone
-        → AreBaseSets plant tables diagrams.old b base.now
-        → Whether plant tables (b ∷ []) (takes plant tables rule number) at.end) }
+    ensures come { IfOk result (λ at. (network : PlantTree) (tables : List TableTree) (b : BaseChain)
+        → MeansAlone network tables diagrams.old rule alone
+        → AreBaseSets network tables diagrams.old b base.now
+        → Whether network tables (b ∷ []) (comes_for network tables rule number) at.come) }
+    ensures end { IfOk result (λ at. (network : PlantTree) (tables : List TableTree) (b : BaseChain)
+        → MeansAlone network tables diagrams.old rule alone
+        → AreBaseSets network tables diagrams.old b base.now
+        → Whether network tables (b ∷ []) (takes network tables rule number) at.end) }
     ensures too_large { IfErr result (λ e. e ≡ TooLarge
         → diagrams.new.limit ≤ length diagrams.new.nodes) }
 {
@@ -151,14 +151,14 @@ impl Told<'_, '_> {
         lookups: &mut [Lookups],
         rule: RuleNo,
     ) -> Result<PacketSet, SetError>
-        requires fine { WellFormed self.tables.now self.plant.now }
-        requires interfaces { self.interfaces.now ≡ interfaces_of self.plant.now }
-        requires declared { AllZip (HasDeclared self.plant.now) self.tables.now lookups.old }
+        requires fine { WellFormed self.tables.now self.network.now }
+        requires interfaces { self.interfaces.now ≡ interfaces_of self.network.now }
+        requires declared { AllZip (HasDeclared self.network.now) self.tables.now lookups.old }
         ensures keeps { Keeps diagrams.old diagrams.new }
         ensures declared { OnOk result
-            (AllZip (HasDeclared self.entry.plant.now) self.entry.tables.now lookups.new) }
+            (AllZip (HasDeclared self.entry.network.now) self.entry.tables.now lookups.new) }
         ensures value { IfOk result
-            (MeansAlone self.entry.plant.now self.entry.tables.now diagrams.new rule) }
+            (MeansAlone self.entry.network.now self.entry.tables.now diagrams.new rule) }
         ensures too_large { IfErr result (λ e. e ≡ TooLarge
             → diagrams.new.limit ≤ length diagrams.new.nodes) }
     {
@@ -171,7 +171,7 @@ impl Told<'_, '_> {
             return Ok(PacketSet::NONE);
         };
         let setting = Setting {
-            plant: self.plant,
+            network: self.network,
             names,
         };
         let interfaces = self.interfaces;
@@ -194,17 +194,17 @@ impl Told<'_, '_> {
         rule: RuleNo,
         number: u32,
     ) -> Result<AtRule, SetError>
-        requires sets { AreSetsOf self.plant.now self.tables.now diagrams.old
+        requires sets { AreSetsOf self.network.now self.tables.now diagrams.old
             (run_chains self.tables.now) self.bases.now }
-        requires alone { MeansAlone self.plant.now self.tables.now diagrams.old rule alone }
+        requires alone { MeansAlone self.network.now self.tables.now diagrams.old rule alone }
         requires number { number + 1 < 2 ^ 32 }
         ensures keeps { Keeps diagrams.old diagrams.new }
-        ensures come { IfOk result (λ at. Whether self.entry.plant.now self.entry.tables.now
+        ensures come { IfOk result (λ at. Whether self.entry.network.now self.entry.tables.now
             (run_chains self.entry.tables.now)
-            (comes_for self.entry.plant.now self.entry.tables.now rule number) at.come) }
-        ensures end { IfOk result (λ at. Whether self.entry.plant.now self.entry.tables.now
+            (comes_for self.entry.network.now self.entry.tables.now rule number) at.come) }
+        ensures end { IfOk result (λ at. Whether self.entry.network.now self.entry.tables.now
             (run_chains self.entry.tables.now)
-            (takes self.entry.plant.now self.entry.tables.now rule number) at.end) }
+            (takes self.entry.network.now self.entry.tables.now rule number) at.end) }
         ensures too_large { IfErr result (λ e. e ≡ TooLarge
             → diagrams.new.limit ≤ length diagrams.new.nodes) }
     {
@@ -227,11 +227,11 @@ impl Told<'_, '_> {
         alone: PacketSet,
         rule: RuleNo,
     ) -> Result<Vec<u32>, SetError>
-        requires sets { AreSetsOf self.plant.now self.tables.now diagrams.old
+        requires sets { AreSetsOf self.network.now self.tables.now diagrams.old
             (run_chains self.tables.now) self.bases.now }
-        requires alone { MeansAlone self.plant.now self.tables.now diagrams.old rule alone }
+        requires alone { MeansAlone self.network.now self.tables.now diagrams.old rule alone }
         ensures keeps { Keeps diagrams.old diagrams.new }
-        ensures takers { IfOk result (λ takers. AreTakers self.entry.plant.now
+        ensures takers { IfOk result (λ takers. AreTakers self.entry.network.now
             self.entry.tables.now (run_chains self.entry.tables.now) rule takers.items) }
         ensures too_large { IfErr result (λ e. e ≡ TooLarge
             → diagrams.new.limit ≤ length diagrams.new.nodes) }
@@ -257,16 +257,16 @@ impl Told<'_, '_> {
         lookups: &mut [Lookups],
         rule: RuleNo,
     ) -> Result<Unmet, SetError>
-        requires fine { WellFormed self.tables.now self.plant.now }
-        requires interfaces { self.interfaces.now ≡ interfaces_of self.plant.now }
-        requires declared { AllZip (HasDeclared self.plant.now) self.tables.now lookups.old }
-        requires sets { AreSetsOf self.plant.now self.tables.now diagrams.old
+        requires fine { WellFormed self.tables.now self.network.now }
+        requires interfaces { self.interfaces.now ≡ interfaces_of self.network.now }
+        requires declared { AllZip (HasDeclared self.network.now) self.tables.now lookups.old }
+        requires sets { AreSetsOf self.network.now self.tables.now diagrams.old
             (run_chains self.tables.now) self.bases.now }
         ensures keeps { Keeps diagrams.old diagrams.new }
         ensures declared { OnOk result
-            (AllZip (HasDeclared self.entry.plant.now) self.entry.tables.now lookups.new) }
+            (AllZip (HasDeclared self.entry.network.now) self.entry.tables.now lookups.new) }
         ensures rule { IfOk result (λ unmet. unmet.rule ≡ rule) }
-        ensures why { IfOk result (IsUnmet self.entry.plant.now self.entry.tables.now
+        ensures why { IfOk result (IsUnmet self.entry.network.now self.entry.tables.now
             (run_chains self.entry.tables.now)) }
         ensures too_large { IfErr result (λ e. e ≡ TooLarge
             → diagrams.new.limit ≤ length diagrams.new.nodes) }

@@ -24,15 +24,15 @@ use std::alloc::{AllocError, Global};
 /// The declared sets and maps of all tables.
 fn all_declared(
     alloc: Global,
-    plant: &Plant,
+    network: &Plant,
     tables: &[TableNames],
 ) -> Result<Vec<Lookups>, AllocError>
-    requires { WellFormed tables.now plant.now }
-    ensures { IfOk result (λ lookups. AllZip (HasDeclared plant.now) tables.now lookups.items) }
+    requires { WellFormed tables.now network.now }
+    ensures { IfOk result (λ lookups. AllZip (HasDeclared network.now) tables.now lookups.items) }
 {
     let mut all = Vec::new(alloc);
     for names in tables {
-        all.push(declared(alloc, plant, names)?)?;
+        all.push(declared(alloc, network, names)?)?;
     }
     Ok(all)
 }
@@ -45,25 +45,25 @@ fn unmet_by(
     checked: &Checked,
     reach: &Reach,
 ) -> Result<Vec<Unmet>, ReachError>
-    requires fine { WellFormed checked.now.rules checked.now.plant }
-    requires sets { AreSetsOf checked.now.plant checked.now.rules diagrams.old
+    requires fine { WellFormed checked.now.rules checked.now.network }
+    requires sets { AreSetsOf checked.now.network checked.now.rules diagrams.old
         (run_chains checked.now.rules) bases.now }
     ensures keeps { Keeps diagrams.old diagrams.new }
     ensures rules { IfOk result (λ unmet. map (λ u. u.rule) unmet.items
         ≡ map (λ r. r.rule) (filter is_unmet reach.now.rules.items)) }
-    ensures why { IfOk result (λ unmet. All (IsUnmet checked.now.plant checked.now.rules
+    ensures why { IfOk result (λ unmet. All (IsUnmet checked.now.network checked.now.rules
         (run_chains checked.now.rules)) unmet.items) }
     ensures too_large { IfErr result (λ e. e ≡ TooLarge
         → diagrams.new.limit ≤ length diagrams.new.nodes) }
     ensures never_deep { IfErr result (λ e. e ≢ TooDeep) }
 {
-    let plant = checked.plant();
+    let network = checked.plant();
     let tables = checked.names(alloc)?;
-    let interfaces = box_interfaces(alloc, plant)?;
-    let mut declared = all_declared(alloc, plant, &tables)?;
+    let interfaces = box_interfaces(alloc, network)?;
+    let mut declared = all_declared(alloc, network, &tables)?;
     let lookups = declared.as_mut_slice();
     let told = Told {
-        plant,
+        network,
         tables: &tables,
         interfaces: &interfaces,
         bases,
@@ -91,12 +91,12 @@ impl ReachSets {
         checked: &Checked,
         reach: &Reach,
     ) -> Result<Vec<Unmet>, ReachError>
-        requires { AreReachSets checked.now.plant checked.now.rules self.old }
-        ensures sets { AreReachSets checked.now.plant checked.now.rules self.new }
+        requires { AreReachSets checked.now.network checked.now.rules self.old }
+        ensures sets { AreReachSets checked.now.network checked.now.rules self.new }
         ensures limit { self.new.diagrams.limit ≡ self.old.diagrams.limit }
         ensures rules { IfOk result (λ unmet. map (λ u. u.rule) unmet.items
             ≡ map (λ r. r.rule) (filter is_unmet reach.now.rules.items)) }
-        ensures why { IfOk result (λ unmet. All (IsUnmet checked.now.plant checked.now.rules
+        ensures why { IfOk result (λ unmet. All (IsUnmet checked.now.network checked.now.rules
             (run_chains checked.now.rules)) unmet.items) }
         ensures too_large { IfErr result (λ e. e ≡ TooLarge
             → self.new.diagrams.limit ≤ length self.new.diagrams.nodes) }

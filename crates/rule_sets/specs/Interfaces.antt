@@ -6,8 +6,8 @@ use Rattle.rule_meaning.specs.declared.facts.Interface.{Interface}
 
 -- an interface by its index; its name is padded with zeros
 abbrev pub interface_facts : PlantTree → ℕ → Interface
-interface_facts plant index = record { index = index; name = padded 0 (unwrap_or (name_of plant index) []) }
+interface_facts network index = record { index = index; name = padded 0 (unwrap_or (name_of network index) []) }
 
 -- one for each `interface` line, in text order
 abbrev pub interfaces_of : PlantTree → List Interface
-interfaces_of plant = map (λ i. interface_facts plant i.index) plant.interfaces
+interfaces_of network = map (λ i. interface_facts network i.index) network.interfaces

@@ -40,7 +40,7 @@ fn ends_from(
     stmts: &[Stmt],
     set: PacketSet,
 ) -> Result<Vec<Case<End>>, SetError>
-    requires declared { HasDeclared setting.plant.now setting.names.now lookups.old }
+    requires declared { HasDeclared setting.network.now setting.names.now lookups.old }
     requires types { list_any (statement_mismatches setting.names.now) (map statement stmts.now)
         ≡ false }
     requires bounds { list_any statement_out_of_range (map statement stmts.now) ≡ false }
@@ -48,7 +48,7 @@ fn ends_from(
     ensures keeps { Keeps diagrams.old diagrams.new }
     ensures extends { OnOk result (Extends lookups.old lookups.new) }
     ensures value { IfOk result (λ ends. AddsEnds diagrams.old diagrams.new reader.entry set
-        (rule_end (table_program setting.entry.plant.now rule.table setting.entry.names.now)
+        (rule_end (table_program setting.entry.network.now rule.table setting.entry.names.now)
         rule.chain rule.rule 1 (map statement stmts.now)) [] ends.items) }
     ensures too_large { IfErr result (λ e. e ≡ TooLarge
         → diagrams.new.limit ≤ length diagrams.new.nodes) }
@@ -87,7 +87,7 @@ pub fn rule_ends(
     stmts: &[Stmt],
     set: PacketSet,
 ) -> Result<Vec<Case<End>>, SetError>
-    requires declared { HasDeclared setting.plant.now setting.names.now lookups.old }
+    requires declared { HasDeclared setting.network.now setting.names.now lookups.old }
     requires types { list_any (statement_mismatches setting.names.now) (map statement stmts.now)
         ≡ false }
     requires bounds { list_any statement_out_of_range (map statement stmts.now) ≡ false }
@@ -95,7 +95,7 @@ pub fn rule_ends(
     ensures keeps { Keeps diagrams.old diagrams.new }
     ensures extends { OnOk result (Extends lookups.old lookups.new) }
     ensures value { IfOk result (λ ends. AddsEnds diagrams.old diagrams.new reader.entry set
-        (rule_end (table_program setting.entry.plant.now rule.table setting.entry.names.now)
+        (rule_end (table_program setting.entry.network.now rule.table setting.entry.names.now)
         rule.chain rule.rule 1 (map statement stmts.now)) [] ends.items) }
     ensures too_large { IfErr result (λ e. e ≡ TooLarge
         → diagrams.new.limit ≤ length diagrams.new.nodes) }

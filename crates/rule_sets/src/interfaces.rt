@@ -9,26 +9,26 @@ use rule_meaning::Interface;
 use std::alloc::{AllocError, Global};
 
 /// An interface of the box.
-fn interface(plant: &Plant, index: IfIndex) -> Interface
-    ensures { result ≡ interface_facts plant.now index }
+fn interface(network: &Plant, index: IfIndex) -> Interface
+    ensures { result ≡ interface_facts network.now index }
 {
     Interface {
         index,
-        name: name_number(plant.name(index).unwrap_or(&[])),
+        name: name_number(network.name(index).unwrap_or(&[])),
     }
 }
 
 /// Those with these indexes.
 fn interfaces(
     alloc: Global,
-    plant: &Plant,
+    network: &Plant,
     indexes: &[IfIndex],
 ) -> Result<Vec<Interface>, AllocError>
-    ensures { IfOk result (λ list. list.items ≡ map (interface_facts plant.now) indexes.now) }
+    ensures { IfOk result (λ list. list.items ≡ map (interface_facts network.now) indexes.now) }
 {
     indexes
         .iter()
-        .map(|index| interface(plant, *index))
+        .map(|index| interface(network, *index))
         .collect(alloc)
 }
 
@@ -37,9 +37,9 @@ fn interfaces(
 /// # Errors
 ///
 /// If an allocation fails.
-pub fn box_interfaces(alloc: Global, plant: &Plant) -> Result<Interfaces, AllocError>
-    ensures { IfOk result (λ list. list ≡ interfaces_of plant.now) }
+pub fn box_interfaces(alloc: Global, network: &Plant) -> Result<Interfaces, AllocError>
+    ensures { IfOk result (λ list. list ≡ interfaces_of network.now) }
 {
-    let indexes = plant.indexes(alloc)?;
-    Ok(Interfaces::new(interfaces(alloc, plant, &indexes)?))
+    let indexes = network.indexes(alloc)?;
+    Ok(Interfaces::new(interfaces(alloc, network, &indexes)?))
 }

@@ -135,7 +135,7 @@ impl Progress {
         lookups: &mut Lookups,
         place: Place<'_, '_>,
     ) -> Result<Progress, SetError>
-        requires declared { HasDeclared place.setting.plant.now place.setting.names.now lookups.old }
+        requires declared { HasDeclared place.setting.network.now place.setting.names.now lookups.old }
         requires types { statement_mismatches place.setting.names.now (statement place.stmt.now)
             ≡ false }
         requires bounds { statement_out_of_range (statement place.stmt.now) ≡ false }
@@ -144,7 +144,7 @@ impl Progress {
         ensures extends { OnOk result (Extends lookups.old lookups.new) }
         ensures value { IfOk result (λ next. Advances diagrams.old diagrams.new place.entry.reader
             (λ rest facts. end_behind place.entry.last rest facts (statement_effect
-            (scope_of place.entry.setting.plant.now place.entry.setting.names.now) place.entry.position
+            (scope_of place.entry.setting.network.now place.entry.setting.names.now) place.entry.position
             (statement place.entry.stmt.now) facts)) self next) }
         ensures too_large { IfErr result (λ e. e ≡ TooLarge
             → diagrams.new.limit ≤ length diagrams.new.nodes) }

@@ -23,7 +23,7 @@ use std::alloc::Global;
 /// What the rules of a table stand in.
 #[derive(Clone, Copy)]
 pub struct Setting<'a, 't> {
-    pub plant: &'a Plant,
+    pub network: &'a Plant,
     pub names: &'a TableNames<'t>,
 }
 
@@ -43,17 +43,24 @@ pub fn statement_cases(
     position: StatementPosition,
     stmt: &Stmt,
 ) -> Result<Vec<Case<Outcome>>, SetError>
-    requires declared { HasDeclared setting.plant.now setting.names.now lookups.old }
+    requires declared { HasDeclared setting.network.now setting.names.now lookups.old }
     requires types { statement_mismatches setting.names.now (statement stmt.now) ≡ false }
     requires bounds { statement_out_of_range (statement stmt.now) ≡ false }
     ensures keeps { Keeps diagrams.old diagrams.new }
     ensures extends { OnOk result (Extends lookups.old lookups.new) }
     ensures value { IfOk result (λ cases. Decides diagrams.new reader.entry cases.items
-        (statement_effect (scope_of setting.entry.plant.now setting.entry.names.now) position
+        (statement_effect (scope_of setting.entry.network.now setting.entry.names.now) position
         (statement stmt.now))) }
     ensures too_large { IfErr result (λ e. e ≡ TooLarge
         → diagrams.new.limit ≤ length diagrams.new.nodes) }
 {
-    let action = action(alloc, setting.plant, setting.names, position, stmt, lookups)?;
+    let action = action(
+        alloc,
+        setting.network,
+        setting.names,
+        position,
+        stmt,
+        lookups,
+    )?;
     action_cases(reader, alloc, diagrams, lookups, &action)
 }

@@ -21,7 +21,7 @@ use Rattle.rule_values.specs.TypedValues.{TypedRange, TypedMap, ranges_in, maps_
 -- ---- N09: values that aren't of their type or out of range
 
 abbrev pub is_of_type : PlantTree → TypedRange → Bool
-is_of_type plant r = is_range plant r.kind r.range
+is_of_type network r = is_range network r.kind r.range
 
 -- a port, not 0
 abbrev pub is_port : ℕ → Bool
@@ -91,13 +91,13 @@ item_out_of_range _ = false
 
 -- N09: a value that isn't of its type, or a number of a statement or chain head out of range
 abbrev pub has_wrong_value : PlantTree → TableTree → Bool
-has_wrong_value plant t =
-    list_any (λ r. not (is_of_type plant r)) (ranges_in t) || list_any item_out_of_range t.items
+has_wrong_value network t =
+    list_any (λ r. not (is_of_type network r)) (ranges_in t) || list_any item_out_of_range t.items
 
 -- ---- N13: interfaces that the box doesn't have
 
 abbrev pub names_unknown_interface : PlantTree → TableTree → Bool
-names_unknown_interface plant t = list_any (λ r. not (is_range_on_box plant r.kind r.range)) (ranges_in t)
+names_unknown_interface network t = list_any (λ r. not (is_range_on_box network r.kind r.range)) (ranges_in t)
 
 -- ---- N12: overlapping map elements with different data
 
@@ -129,9 +129,9 @@ pub record MapEntry : Type 0 where
   pub given : ElementData
 
 abbrev pub element_data : PlantTree → Option ComparedType → DataTree → Option ElementData
-element_data plant wanted (tree.to_verdict v) = Some (a_verdict v)
-element_data plant (Some k) (tree.to_value v) = option_map a_value (numbers_of plant k (tree.one v))
-element_data plant None (tree.to_value v) = None
+element_data network wanted (tree.to_verdict v) = Some (a_verdict v)
+element_data network (Some k) (tree.to_value v) = option_map a_value (numbers_of network k (tree.one v))
+element_data network None (tree.to_value v) = None
 
 abbrev pub entry_with : Option Span → Option ElementData → Option MapEntry
 entry_with (Some keys) (Some given) = Some (record { keys = keys; given = given })
@@ -139,7 +139,7 @@ entry_with _ _ = None
 
 -- an element whose key and data denote numbers (without a fault of a lower number, all do)
 abbrev pub map_entry_of : PlantTree → TypedMap → PairTree → Option MapEntry
-map_entry_of plant m p = entry_with (numbers_of plant m.key p.key) (element_data plant m.value p.value)
+map_entry_of network m p = entry_with (numbers_of network m.key p.key) (element_data network m.value p.value)
 
 -- two elements overlap and have different data
 abbrev pub contradict : MapEntry → MapEntry → Bool
@@ -147,7 +147,7 @@ contradict a b =
     nat_le a.keys.low b.keys.high && nat_le b.keys.low a.keys.high && not (same_element_data a.given b.given)
 
 abbrev pub map_contradicts : PlantTree → TypedMap → Bool
-map_contradicts plant m = any_pair contradict (filter_map (map_entry_of plant m) m.elements)
+map_contradicts network m = any_pair contradict (filter_map (map_entry_of network m) m.elements)
 
 abbrev pub has_contradiction : PlantTree → TableTree → Bool
-has_contradiction plant t = list_any (map_contradicts plant) (maps_in t)
+has_contradiction network t = list_any (map_contradicts network) (maps_in t)

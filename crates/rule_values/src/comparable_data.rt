@@ -55,18 +55,18 @@ fn comparable_verdict<'t>(
 /// The comparable form of a datum; `None` if a value isn't wanted or denotes no number.
 pub(crate) fn comparable_form_of<'t>(
     names: &mut IndexSet<&'t [u8]>,
-    plant: &Plant,
+    network: &Plant,
     wanted: Option<ComparedType>,
     datum: &'t Data,
 ) -> Result<Option<ComparableData>, AllocError>
     ensures keeps { OnOk result (KeepsIndices names.old.keys names.new.keys) }
     ensures comparable_data { IfOk result
         (λ o. RepresentsOptionalData names.new.keys
-        (element_data plant.now wanted (data_tree datum.now)) o) }
+        (element_data network.now wanted (data_tree datum.now)) o) }
 {
     match (datum, wanted) {
         (Data::Verdict(verdict), _) => Ok(Some(comparable_verdict(names, verdict)?)),
-        (Data::Value(value), Some(kind)) => match value_numbers(plant, kind, value) {
+        (Data::Value(value), Some(kind)) => match value_numbers(network, kind, value) {
             None => Ok(None),
             Some(range) => Ok(Some(ComparableData::Numbers(range.low(), range.high()))),
         },

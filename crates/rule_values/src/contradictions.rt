@@ -27,21 +27,21 @@ pub(crate) trait HasMaps: Drop {
     ghost maps_of: { Tree → List TypedMap };
 
     /// Whether one of its maps has overlapping elements with different data.
-    fn contradicts(&self, alloc: Global, plant: &Plant) -> Result<bool, AllocError>
-        ensures { IfOk result (λ b. b ≡ list_any (map_contradicts plant.now)
+    fn contradicts(&self, alloc: Global, network: &Plant) -> Result<bool, AllocError>
+        ensures { IfOk result (λ b. b ≡ list_any (map_contradicts network.now)
             (maps_of (tree self.now))) };
 }
 
 pub(crate) fn any_contradicts<T: HasMaps>(
     alloc: Global,
-    plant: &Plant,
+    network: &Plant,
     parts: &[T],
 ) -> Result<bool, AllocError>
-    ensures { IfOk result (λ b. b ≡ list_any (map_contradicts plant.now)
+    ensures { IfOk result (λ b. b ≡ list_any (map_contradicts network.now)
         (flat_map T.maps_of (map T.tree parts.now))) }
 {
     for part in parts {
-        if part.contradicts(alloc, plant)? {
+        if part.contradicts(alloc, network)? {
             return Ok(true);
         }
     }
@@ -55,8 +55,8 @@ impl HasMaps for Table {
 
     ghost maps_of = { maps_in };
 
-    fn contradicts(&self, alloc: Global, plant: &Plant) -> Result<bool, AllocError> {
-        any_contradicts(alloc, plant, &self.items)
+    fn contradicts(&self, alloc: Global, network: &Plant) -> Result<bool, AllocError> {
+        any_contradicts(alloc, network, &self.items)
     }
 }
 
@@ -67,10 +67,10 @@ impl HasMaps for Item {
 
     ghost maps_of = { item_maps };
 
-    fn contradicts(&self, alloc: Global, plant: &Plant) -> Result<bool, AllocError> {
+    fn contradicts(&self, alloc: Global, network: &Plant) -> Result<bool, AllocError> {
         match self {
-            Item::Chain(chain) => any_contradicts(alloc, plant, &chain.rules),
-            Item::Map(map) => map_contradicts(alloc, plant, &declared_elements(map)),
+            Item::Chain(chain) => any_contradicts(alloc, network, &chain.rules),
+            Item::Map(map) => map_contradicts(alloc, network, &declared_elements(map)),
             Item::Comment(_) | Item::Set(_) => Ok(false),
         }
     }
@@ -83,8 +83,8 @@ impl HasMaps for Rule {
 
     ghost maps_of = { rule_maps };
 
-    fn contradicts(&self, alloc: Global, plant: &Plant) -> Result<bool, AllocError> {
-        any_contradicts(alloc, plant, &self.statements)
+    fn contradicts(&self, alloc: Global, network: &Plant) -> Result<bool, AllocError> {
+        any_contradicts(alloc, network, &self.statements)
     }
 }
 
@@ -95,19 +95,19 @@ impl HasMaps for Stmt {
 
     ghost maps_of = { statement_maps };
 
-    fn contradicts(&self, alloc: Global, plant: &Plant) -> Result<bool, AllocError> {
+    fn contradicts(&self, alloc: Global, network: &Plant) -> Result<bool, AllocError> {
         match statement_elements(self) {
             None => Ok(false),
-            Some(elements) => map_contradicts(alloc, plant, &elements),
+            Some(elements) => map_contradicts(alloc, network, &elements),
         }
     }
 }
 
 /// Whether two elements of the map overlap and have different data.
-fn map_contradicts(alloc: Global, plant: &Plant, elements: &Elements) -> Result<bool, AllocError>
-    ensures { IfOk result (λ b. b ≡ map_contradicts plant.now (elements_tree elements.now)) }
+fn map_contradicts(alloc: Global, network: &Plant, elements: &Elements) -> Result<bool, AllocError>
+    ensures { IfOk result (λ b. b ≡ map_contradicts network.now (elements_tree elements.now)) }
 {
-    let pairs = gather(alloc, plant, elements)?;
+    let pairs = gather(alloc, network, elements)?;
     match Intervals::build(alloc, &pairs) {
         Ok(_) => Ok(false),
         Err(SetError::Clash) => Ok(true),
@@ -118,30 +118,30 @@ fn map_contradicts(alloc: Global, plant: &Plant, elements: &Elements) -> Result<
 /// The elements that denote numbers, each as the range of its key and its data.
 fn gather(
     alloc: Global,
-    plant: &Plant,
+    network: &Plant,
     elements: &Elements,
 ) -> Result<Vec<(Range, ComparableData)>, AllocError>
     ensures { IfOk result (λ pairs. RepresentsEntries pairs.items
-        (entries_of plant.now (elements_tree elements.now))) }
+        (entries_of network.now (elements_tree elements.now))) }
 {
     let mut names = IndexSet::new(alloc);
     let mut pairs = Vec::new(alloc);
-    add_entries(&mut names, &mut pairs, plant, elements)?;
+    add_entries(&mut names, &mut pairs, network, elements)?;
     Ok(pairs)
 }
 
 fn add_entries<'t>(
     names: &mut IndexSet<&'t [u8]>,
     pairs: &mut Vec<(Range, ComparableData)>,
-    plant: &Plant,
+    network: &Plant,
     elements: &Elements<'t>,
 ) -> Result<(), AllocError>
     requires { pairs.old.items ≡ [] }
     ensures { OnOk result (RepresentsEntries pairs.new.items
-        (entries_of plant.now (elements_tree elements.now))) }
+        (entries_of network.now (elements_tree elements.now))) }
 {
     for pair in elements.pairs {
-        if let Some(entry) = entry(names, plant, elements, pair)? {
+        if let Some(entry) = entry(names, network, elements, pair)? {
             pairs.push(entry)?;
         }
     }
@@ -151,16 +151,16 @@ fn add_entries<'t>(
 /// The range of an element's key, and its data; `None` if one of them denotes no number.
 fn entry<'t>(
     names: &mut IndexSet<&'t [u8]>,
-    plant: &Plant,
+    network: &Plant,
     elements: &Elements,
     pair: &'t Pair,
 ) -> Result<Option<(Range, ComparableData)>, AllocError>
     ensures keeps { OnOk result (KeepsIndices names.old.keys names.new.keys) }
     ensures entry { IfOk result (λ e. RepresentsOptionalEntry names.new.keys
-        (map_entry_of plant.now (elements_tree elements.now) (pair_tree pair.now)) e) }
+        (map_entry_of network.now (elements_tree elements.now) (pair_tree pair.now)) e) }
 {
-    let given = comparable_form_of(names, plant, elements.value, &pair.value)?;
-    match (numbers_of(plant, elements.key, &pair.key), given) {
+    let given = comparable_form_of(names, network, elements.value, &pair.value)?;
+    match (numbers_of(network, elements.key, &pair.key), given) {
         (Some(keys), Some(given)) => Ok(Some((keys, given))),
         _ => Ok(None),
     }

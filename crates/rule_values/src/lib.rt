@@ -25,25 +25,25 @@ use values::table_fails;
 
 /// Whether a value isn't of its type or a number is out of range (N09): in comparisons, set
 /// elements, map keys and data; ports, TCP flags, marks, log prefixes and priorities.
-pub fn has_wrong_value(plant: &Plant, tree: &Ruleset) -> bool
-    ensures { result ≡ list_any (has_wrong_value plant.now) (tables_of tree.now) }
+pub fn has_wrong_value(network: &Plant, tree: &Ruleset) -> bool
+    ensures { result ≡ list_any (has_wrong_value network.now) (tables_of tree.now) }
 {
-    any(&tree.tables, |table| table_has_wrong_value(plant, table))
+    any(&tree.tables, |table| table_has_wrong_value(network, table))
 }
 
-fn table_has_wrong_value(plant: &Plant, table: &Table) -> bool
-    ensures { result ≡ has_wrong_value plant.now (table_tree table.now) }
+fn table_has_wrong_value(network: &Plant, table: &Table) -> bool
+    ensures { result ≡ has_wrong_value network.now (table_tree table.now) }
 {
-    table_fails(ValueCheck::IsOfType, plant, table) || any(&table.items, item_out_of_range)
+    table_fails(ValueCheck::IsOfType, network, table) || any(&table.items, item_out_of_range)
 }
 
 /// Whether a value of type iface_index names an interface that the box doesn't have (N13).
-pub fn names_unknown_interface(plant: &Plant, tree: &Ruleset) -> bool
-    ensures { result ≡ list_any (names_unknown_interface plant.now) (tables_of tree.now) }
+pub fn names_unknown_interface(network: &Plant, tree: &Ruleset) -> bool
+    ensures { result ≡ list_any (names_unknown_interface network.now) (tables_of tree.now) }
 {
     any(
         &tree.tables,
-        |table| table_fails(ValueCheck::IsOnBox, plant, table),
+        |table| table_fails(ValueCheck::IsOnBox, network, table),
     )
 }
 
@@ -52,8 +52,8 @@ pub fn names_unknown_interface(plant: &Plant, tree: &Ruleset) -> bool
 /// # Errors
 ///
 /// If an allocation fails.
-pub fn has_contradiction(alloc: Global, plant: &Plant, tree: &Ruleset) -> Result<bool, AllocError>
-    ensures { IfOk result (λ b. b ≡ list_any (has_contradiction plant.now) (tables_of tree.now)) }
+pub fn has_contradiction(alloc: Global, network: &Plant, tree: &Ruleset) -> Result<bool, AllocError>
+    ensures { IfOk result (λ b. b ≡ list_any (has_contradiction network.now) (tables_of tree.now)) }
 {
-    any_contradicts(alloc, plant, &tree.tables)
+    any_contradicts(alloc, network, &tree.tables)
 }

@@ -19,22 +19,22 @@ pub(crate) enum ValueCheck {
 
 impl ValueCheck {
     /// Whether a value, a range or a prefix fails the check.
-    pub(crate) fn fails(self, plant: &Plant, kind: ComparedType, range: &ValueRange) -> bool
-        ensures { result ≡ fails self plant.now (typed_range kind (range_tree range.now)) }
+    pub(crate) fn fails(self, network: &Plant, kind: ComparedType, range: &ValueRange) -> bool
+        ensures { result ≡ fails self network.now (typed_range kind (range_tree range.now)) }
     {
         match self {
-            ValueCheck::IsOfType => !is_range(plant, kind, range),
-            ValueCheck::IsOnBox => !is_range_on_box(plant, kind, range),
+            ValueCheck::IsOfType => !is_range(network, kind, range),
+            ValueCheck::IsOnBox => !is_range_on_box(network, kind, range),
         }
     }
 
     /// Whether a value fails the check.
-    pub(crate) fn fails_value(self, plant: &Plant, kind: ComparedType, value: &Value) -> bool
-        ensures { result ≡ fails self plant.now (typed_value kind (value_tree value.now)) }
+    pub(crate) fn fails_value(self, network: &Plant, kind: ComparedType, value: &Value) -> bool
+        ensures { result ≡ fails self network.now (typed_value kind (value_tree value.now)) }
     {
         match self {
             ValueCheck::IsOfType => !is_value(kind, value),
-            ValueCheck::IsOnBox => !is_on_box(plant, kind, value),
+            ValueCheck::IsOnBox => !is_on_box(network, kind, value),
         }
     }
 }

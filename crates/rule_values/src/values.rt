@@ -28,17 +28,17 @@ trait HasRanges: Drop {
     ghost ranges_of: { Tree → List TypedRange };
 
     /// Whether one of its values fails the check.
-    fn some_fails(&self, value_check: ValueCheck, plant: &Plant) -> bool
-        ensures { result ≡ list_any (fails value_check plant.now)
+    fn some_fails(&self, value_check: ValueCheck, network: &Plant) -> bool
+        ensures { result ≡ list_any (fails value_check network.now)
             (ranges_of (tree self.now)) };
 }
 
-fn parts_fail<T: HasRanges>(value_check: ValueCheck, plant: &Plant, parts: &[T]) -> bool
-    ensures { result ≡ list_any (fails value_check plant.now)
+fn parts_fail<T: HasRanges>(value_check: ValueCheck, network: &Plant, parts: &[T]) -> bool
+    ensures { result ≡ list_any (fails value_check network.now)
         (flat_map T.ranges_of (map T.tree parts.now)) }
 {
     for part in parts {
-        if part.some_fails(value_check, plant) {
+        if part.some_fails(value_check, network) {
             return true;
         }
     }
@@ -46,10 +46,10 @@ fn parts_fail<T: HasRanges>(value_check: ValueCheck, plant: &Plant, parts: &[T])
 }
 
 /// Whether some value of the table fails the check.
-pub(crate) fn table_fails(value_check: ValueCheck, plant: &Plant, table: &Table) -> bool
-    ensures { result ≡ list_any (fails value_check plant.now) (ranges_in (table_tree table.now)) }
+pub(crate) fn table_fails(value_check: ValueCheck, network: &Plant, table: &Table) -> bool
+    ensures { result ≡ list_any (fails value_check network.now) (ranges_in (table_tree table.now)) }
 {
-    parts_fail(value_check, plant, &table.items)
+    parts_fail(value_check, network, &table.items)
 }
 
 impl HasRanges for Item {
@@ -59,20 +59,20 @@ impl HasRanges for Item {
 
     ghost ranges_of = { item_ranges };
 
-    fn some_fails(&self, value_check: ValueCheck, plant: &Plant) -> bool {
+    fn some_fails(&self, value_check: ValueCheck, network: &Plant) -> bool {
         match self {
             Item::Comment(_) => false,
-            Item::Chain(chain) => parts_fail(value_check, plant, &chain.rules),
+            Item::Chain(chain) => parts_fail(value_check, network, &chain.rules),
             Item::Set(set) => match &set.elements {
                 None => false,
                 Some(elements) => elements_fail(
                     value_check,
-                    plant,
+                    network,
                     &KeyTypes::Declared(&set.key),
                     elements.as_slice(),
                 ),
             },
-            Item::Map(map) => map_fails(value_check, plant, &declared_elements(map)),
+            Item::Map(map) => map_fails(value_check, network, &declared_elements(map)),
         }
     }
 }
@@ -84,8 +84,8 @@ impl HasRanges for Rule {
 
     ghost ranges_of = { rule_ranges };
 
-    fn some_fails(&self, value_check: ValueCheck, plant: &Plant) -> bool {
-        parts_fail(value_check, plant, &self.statements)
+    fn some_fails(&self, value_check: ValueCheck, network: &Plant) -> bool {
+        parts_fail(value_check, network, &self.statements)
     }
 }
 
@@ -96,24 +96,24 @@ impl HasRanges for Stmt {
 
     ghost ranges_of = { statement_ranges };
 
-    fn some_fails(&self, value_check: ValueCheck, plant: &Plant) -> bool {
+    fn some_fails(&self, value_check: ValueCheck, network: &Plant) -> bool {
         if let Stmt::Match(test) = self {
-            return match_fails(value_check, plant, test);
+            return match_fails(value_check, network, test);
         }
         match statement_elements(self) {
             None => false,
-            Some(elements) => map_fails(value_check, plant, &elements),
+            Some(elements) => map_fails(value_check, network, &elements),
         }
     }
 }
 
-fn match_fails(value_check: ValueCheck, plant: &Plant, test: &Match) -> bool
-    ensures { result ≡ list_any (fails value_check plant.now) (match_ranges (match_tree test.now)) }
+fn match_fails(value_check: ValueCheck, network: &Plant, test: &Match) -> bool
+    ensures { result ≡ list_any (fails value_check network.now) (match_ranges (match_tree test.now)) }
 {
     match test {
-        Match::Compare(selector, _, range) => value_check.fails(plant, selector.kind(), range),
+        Match::Compare(selector, _, range) => value_check.fails(network, selector.kind(), range),
         Match::In(selectors, set) | Match::NotIn(selectors, set) => {
-            set_ref_fails(value_check, plant, selectors.as_slice(), set)
+            set_ref_fails(value_check, network, selectors.as_slice(), set)
         }
         _ => false,
     }
@@ -121,18 +121,18 @@ fn match_fails(value_check: ValueCheck, plant: &Plant, test: &Match) -> bool
 
 fn set_ref_fails(
     value_check: ValueCheck,
-    plant: &Plant,
+    network: &Plant,
     selectors: &[Selector],
     set: &SetRef,
 ) -> bool
-    ensures { result ≡ list_any (fails value_check plant.now)
+    ensures { result ≡ list_any (fails value_check network.now)
         (set_ref_ranges selectors.now (set_ref_tree set.now)) }
 {
     match set {
         SetRef::Named(_) => false,
         SetRef::Anonymous(elements) => elements_fail(
             value_check,
-            plant,
+            network,
             &KeyTypes::Selected(selectors),
             elements.as_slice(),
         ),
@@ -141,44 +141,44 @@ fn set_ref_fails(
 
 fn elements_fail(
     value_check: ValueCheck,
-    plant: &Plant,
+    network: &Plant,
     kinds: &KeyTypes,
     elements: &[Element],
 ) -> bool
-    ensures { result ≡ list_any (fails value_check plant.now)
+    ensures { result ≡ list_any (fails value_check network.now)
         (element_ranges (key_types_of kinds.now) (map element_tree elements.now)) }
 {
     for element in elements {
-        if key_fails(value_check, plant, kinds, &element.key) {
+        if key_fails(value_check, network, kinds, &element.key) {
             return true;
         }
     }
     false
 }
 
-fn key_fails(value_check: ValueCheck, plant: &Plant, kinds: &KeyTypes, key: &Key) -> bool
-    ensures { result ≡ list_any (fails value_check plant.now)
+fn key_fails(value_check: ValueCheck, network: &Plant, kinds: &KeyTypes, key: &Key) -> bool
+    ensures { result ≡ list_any (fails value_check network.now)
         (key_ranges (key_types_of kinds.now) (key_tree key.now)) }
 {
     match key {
         Key::Single(range) => match kinds.kind(0) {
             None => false,
-            Some(kind) => value_check.fails(plant, kind, range),
+            Some(kind) => value_check.fails(network, kind, range),
         },
-        Key::Joined(values) => joined_fail(value_check, plant, kinds, values.as_slice()),
+        Key::Joined(values) => joined_fail(value_check, network, kinds, values.as_slice()),
     }
 }
 
 /// Whether some of the concatenated values fails the check, each by the type of its part.
-fn joined_fail(value_check: ValueCheck, plant: &Plant, kinds: &KeyTypes, values: &[Value]) -> bool
-    ensures { result ≡ list_any (fails value_check plant.now)
+fn joined_fail(value_check: ValueCheck, network: &Plant, kinds: &KeyTypes, values: &[Value]) -> bool
+    ensures { result ≡ list_any (fails value_check network.now)
         (joined_ranges (key_types_of kinds.now) (map value_tree values.now)) }
 {
     for (part, value) in values.iter().enumerate() {
         let Some(kind) = kinds.kind(part) else {
             return false;
         };
-        if value_check.fails_value(plant, kind, value) {
+        if value_check.fails_value(network, kind, value) {
             return true;
         }
     }
@@ -186,37 +186,37 @@ fn joined_fail(value_check: ValueCheck, plant: &Plant, kinds: &KeyTypes, values:
 }
 
 /// Whether some key or value of the map fails the check.
-fn map_fails(value_check: ValueCheck, plant: &Plant, elements: &Elements) -> bool
-    ensures { result ≡ list_any (fails value_check plant.now)
+fn map_fails(value_check: ValueCheck, network: &Plant, elements: &Elements) -> bool
+    ensures { result ≡ list_any (fails value_check network.now)
         (map_ranges (elements_tree elements.now)) }
 {
     for pair in elements.pairs {
-        if pair_fails(value_check, plant, elements, pair) {
+        if pair_fails(value_check, network, elements, pair) {
             return true;
         }
     }
     false
 }
 
-fn pair_fails(value_check: ValueCheck, plant: &Plant, elements: &Elements, pair: &Pair) -> bool
-    ensures { result ≡ list_any (fails value_check plant.now)
+fn pair_fails(value_check: ValueCheck, network: &Plant, elements: &Elements, pair: &Pair) -> bool
+    ensures { result ≡ list_any (fails value_check network.now)
         (pair_ranges (elements_tree elements.now) (pair_tree pair.now)) }
 {
-    value_check.fails(plant, elements.key, &pair.key)
-        || data_fails(value_check, plant, elements.value, &pair.value)
+    value_check.fails(network, elements.key, &pair.key)
+        || data_fails(value_check, network, elements.value, &pair.value)
 }
 
 fn data_fails(
     value_check: ValueCheck,
-    plant: &Plant,
+    network: &Plant,
     wanted: Option<ComparedType>,
     datum: &Data,
 ) -> bool
-    ensures { result ≡ list_any (fails value_check plant.now)
+    ensures { result ≡ list_any (fails value_check network.now)
         (data_ranges wanted (data_tree datum.now)) }
 {
     match (wanted, datum) {
-        (Some(kind), Data::Value(value)) => value_check.fails_value(plant, kind, value),
+        (Some(kind), Data::Value(value)) => value_check.fails_value(network, kind, value),
         _ => false,
     }
 }

@@ -19,7 +19,7 @@ use std::alloc::{AllocError, Global};
 pub fn put_advice_on_rules(
     alloc: Global,
     source: Source<'_>,
-    plant: &[u8],
+    network: &[u8],
     found: FaultyNode,
     offset: usize,
     lines: &mut String,
@@ -28,7 +28,7 @@ pub fn put_advice_on_rules(
         return put_duplicate(alloc, source, found.node, lines);
     }
     match Around::new(alloc, source, found.node, offset)? {
-        Some(around) => put_advice(alloc, &around, plant, found.fault, lines),
+        Some(around) => put_advice(alloc, &around, network, found.fault, lines),
         None => Ok(()),
     }
 }
@@ -37,11 +37,11 @@ pub fn put_advice_on_rules(
 fn put_advice(
     alloc: Global,
     around: &Around<'_>,
-    plant: &[u8],
+    network: &[u8],
     fault: CheckFault,
     lines: &mut String,
 ) -> Result<(), AllocError> {
-    let names = names_wanted(alloc, around, plant, fault)?;
+    let names = names_wanted(alloc, around, network, fault)?;
     let types = Types::at(alloc, around)?;
     if matches!(fault, CheckFault::WrongValue) && put_unread(alloc, around, &types, lines)? {
         return Ok(());

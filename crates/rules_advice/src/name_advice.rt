@@ -13,11 +13,11 @@ use std::alloc::{AllocError, Global};
 pub fn names_wanted<'a>(
     alloc: Global,
     around: &Around<'a>,
-    plant: &'a [u8],
+    network: &'a [u8],
     fault: CheckFault,
 ) -> Result<Vec<&'a str>, AllocError> {
     let kind = match fault {
-        CheckFault::NoSuchInterface => return interfaces(alloc, plant),
+        CheckFault::NoSuchInterface => return interfaces(alloc, network),
         CheckFault::NoSuchChain => Kind::Chain,
         _ => Kind::Set,
     };

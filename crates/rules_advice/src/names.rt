@@ -40,9 +40,9 @@ pub fn item_named<'a>(table: &'a Table, kind: Kind, name: &str) -> Option<&'a It
 }
 
 /// The names of a box's interfaces.
-pub fn interfaces<'a>(alloc: Global, plant: &'a [u8]) -> Result<Vec<&'a str>, AllocError> {
+pub fn interfaces<'a>(alloc: Global, network: &'a [u8]) -> Result<Vec<&'a str>, AllocError> {
     let mut names = Vec::new(alloc);
-    for line in plant.split(|byte| *byte == b'\n') {
+    for line in network.split(|byte| *byte == b'\n') {
         let mut words = str::from_utf8(line).unwrap_or("").split_whitespace();
         if words.next() == Some("interface")
             && let Some(name) = words.nth(1)

@@ -15,8 +15,8 @@ use Rattle.ruleset_diff.specs.declared.differences.Difference.{Difference}
 use Rattle.ruleset_diff.specs.Differences.{AreDifferences, Comes, IsAmong, IsDifference}
 use Rattle.ruleset_diff.specs.steps.Stages.{AddsStage, IsCovered}
 
-module _ (plant : PlantTree) (old new : List TableTree) (within : Facts → Bool) where
-  difference_kept : (d e : DiagramsView) → Keeps d e → (it : Difference) → IsDifference plant old new within d it → IsDifference plant old new within e it
+module _ (network : PlantTree) (old new : List TableTree) (within : Facts → Bool) where
+  difference_kept : (d e : DiagramsView) → Keeps d e → (it : Difference) → IsDifference network old new within d it → IsDifference network old new within e it
   difference_kept d e k it is =
       let back : (p : ℕ → Bool) → holds e it.set p ≡ true → holds d it.set p ≡ true = λ p has. sym (k.same it.set p is.set) ∙ has in
       record {
@@ -26,10 +26,10 @@ module _ (plant : PlantTree) (old new : List TableTree) (within : Facts → Bool
         differ = λ p has. is.differ p (back p has);
       }
 
-  among_kept : (d e : DiagramsView) → Keeps d e → (its more : List Difference) → All (IsDifference plant old new within d) its → (stage : HookStage) (f : Facts)
-      → IsAmong plant old new d its stage f → IsAmong plant old new e (its ++ more) stage f
+  among_kept : (d e : DiagramsView) → Keeps d e → (its more : List Difference) → All (IsDifference network old new within d) its → (stage : HookStage) (f : Facts)
+      → IsAmong network old new d its stage f → IsAmong network old new e (its ++ more) stage f
   among_kept d e k its more are stage f among =
-      let is = All-contains (IsDifference plant old new within d) its among.it are among.among in
+      let is = All-contains (IsDifference network old new within d) its among.it are among.among in
       record {
         it = among.it;
         among = Contains-append_left its more among.it among.among;
@@ -40,7 +40,7 @@ module _ (plant : PlantTree) (old new : List TableTree) (within : Facts → Bool
       }
 
   among_added : (d : DiagramsView) (its more : List Difference) (stage : HookStage) (f : Facts)
-      → IsAmong plant old new d more stage f → IsAmong plant old new d (its ++ more) stage f
+      → IsAmong network old new d more stage f → IsAmong network old new d (its ++ more) stage f
   among_added d its more stage f among = record {
     it = among.it;
     among = Contains-append_right its more among.it among.among;
@@ -52,20 +52,20 @@ module _ (plant : PlantTree) (old new : List TableTree) (within : Facts → Bool
 
   -- all differences in the stages before this index
   pub record AreTo (d : DiagramsView) (index : ℕ) (its : List Difference) : Type 0 where
-    pub are : All (IsDifference plant old new within d) its
-    pub all : (j : ℕ) (stage : HookStage) → j < index → slice_get STAGES j ≡ Some stage → (f : Facts) → IsCovered plant old new within d its stage f
+    pub are : All (IsDifference network old new within d) its
+    pub all : (j : ℕ) (stage : HookStage) → j < index → slice_get STAGES j ≡ Some stage → (f : Facts) → IsCovered network old new within d its stage f
 
   pub to_none : (d : DiagramsView) (its : List Difference) → its ≡ [] → AreTo d 0 its
   to_none d its none = subst (AreTo d 0) (sym none) (record {
-    are = All-nil (IsDifference plant old new within d);
+    are = All-nil (IsDifference network old new within d);
     all = λ j stage under at f. absurd (omega (arith, under));
   })
 
   pub to_more : (d e : DiagramsView) (index : ℕ) (stage : HookStage) (its after : List Difference) → slice_get STAGES index ≡ Some stage → Keeps d e
-      → AddsStage plant old new within e stage its after → AreTo d index its → AreTo e (index + 1) after
+      → AddsStage network old new within e stage its after → AreTo d index its → AreTo e (index + 1) after
   to_more d e index stage its after here k adds so_far = subst (AreTo e (index + 1)) (sym adds.added) (record {
-    are = All-append (IsDifference plant old new within e) its adds.more
-        (All-weaker (IsDifference plant old new within d) (IsDifference plant old new within e) (difference_kept d e k) its so_far.are) adds.are;
+    are = All-append (IsDifference network old new within e) its adds.more
+        (All-weaker (IsDifference network old new within d) (IsDifference network old new within e) (difference_kept d e k) its so_far.are) adds.are;
     all = λ j other under at f comes. elim (cases_lt j index) [
       | inl before ↦ elim (so_far.all j other before at f comes) [
         | inl same ↦ inl same
@@ -75,8 +75,8 @@ module _ (plant : PlantTree) (old new : List TableTree) (within : Facts → Bool
           let now : j ≡ index = omega (arith, under, behind) in
           let there : slice_get STAGES index ≡ Some other = subst (λ i. slice_get STAGES i ≡ Some other) now at in
           let same : stage ≡ other = cc in
-          subst (λ s. SameAt plant old new s f ⊎ IsAmong plant old new e (its ++ adds.more) s f) same
-          (elim (adds.all f (subst (λ s. Comes within plant s f) (sym same) comes)) [
+          subst (λ s. SameAt network old new s f ⊎ IsAmong network old new e (its ++ adds.more) s f) same
+          (elim (adds.all f (subst (λ s. Comes within network s f) (sym same) comes)) [
             | inl alike ↦ inl alike
             | inr among ↦ inr (among_added e its adds.more stage f among)
           ])
@@ -106,7 +106,7 @@ module _ (plant : PlantTree) (old new : List TableTree) (within : Facts → Bool
   numbered stages.PostroutingNat = (refl, lit< tt)
   numbered stages.PostroutingAfterNat = (refl, lit< tt)
 
-  pub to_all : (d : DiagramsView) (index : ℕ) (its : List Difference) → 9 ≤ index → AreTo d index its → AreDifferences plant old new within d its
+  pub to_all : (d : DiagramsView) (index : ℕ) (its : List Difference) → 9 ≤ index → AreTo d index its → AreDifferences network old new within d its
   to_all d index its past so_far = record {
     are = so_far.are;
     all = λ stage f comes.

@@ -86,42 +86,42 @@ module _ (interfaces : List Interface) (end : Facts → StageEnd) (d e : Diagram
 
 -- ---- one packet
 
-module _ (plant : PlantTree) (old new : List TableTree) (stage : HookStage) (old_ways : StageRunsAreWays plant old stage)
-    (new_ways : StageRunsAreWays plant new stage) (p : ℕ → Bool) where
+module _ (network : PlantTree) (old new : List TableTree) (stage : HookStage) (old_ways : StageRunsAreWays network old stage)
+    (new_ways : StageRunsAreWays network new stage) (p : ℕ → Bool) where
   abbrev facts : Facts
-  facts = facts_of (interfaces_of plant) NOTHING p
+  facts = facts_of (interfaces_of network) NOTHING p
 
   -- outcomes by which the packet ends in the stage
-  module _ (o n : StageOutcome) (by_old : end_with (interfaces_of plant) p o ≡ end_of_chains plant old old_ways.order facts)
-      (by_new : end_with (interfaces_of plant) p n ≡ end_of_chains plant new new_ways.order facts) where
-    old_verdict : (r : HookResult) → Stage stage plant old facts [] r → r.verdict ≡ o.verdict
+  module _ (o n : StageOutcome) (by_old : end_with (interfaces_of network) p o ≡ end_of_chains network old old_ways.order facts)
+      (by_new : end_with (interfaces_of network) p n ≡ end_of_chains network new new_ways.order facts) where
+    old_verdict : (r : HookResult) → Stage stage network old facts [] r → r.verdict ≡ o.verdict
     old_verdict r runs = (old_ways.ways facts [] r runs).0 ∙ ap (λ e. e.verdict) (sym by_old)
 
-    old_facts : (r : HookResult) → Stage stage plant old facts [] r → r.facts ≡ facts_of (interfaces_of plant) o.written p
+    old_facts : (r : HookResult) → Stage stage network old facts [] r → r.facts ≡ facts_of (interfaces_of network) o.written p
     old_facts r runs = (old_ways.ways facts [] r runs).1 ∙ ap (λ e. e.facts) (sym by_old)
 
-    new_verdict : (r : HookResult) → Stage stage plant new facts [] r → r.verdict ≡ n.verdict
+    new_verdict : (r : HookResult) → Stage stage network new facts [] r → r.verdict ≡ n.verdict
     new_verdict r runs = (new_ways.ways facts [] r runs).0 ∙ ap (λ e. e.verdict) (sym by_new)
 
-    new_facts : (r : HookResult) → Stage stage plant new facts [] r → r.facts ≡ facts_of (interfaces_of plant) n.written p
+    new_facts : (r : HookResult) → Stage stage network new facts [] r → r.facts ≡ facts_of (interfaces_of network) n.written p
     new_facts r runs = (new_ways.ways facts [] r runs).1 ∙ ap (λ e. e.facts) (sym by_new)
 
-    pub same_at : SameOutcome o n p → SameAt plant old new stage facts
+    pub same_at : SameOutcome o n p → SameAt network old new stage facts
     same_at same = λ r s by_r by_s. record {
       verdict = old_verdict r by_r ∙ same.verdict ∙ sym (new_verdict s by_s);
       facts = λ goes_on. old_facts r by_r
-          ∙ facts_alike (interfaces_of plant) o.written n.written p (same.written (subst GoesOn (old_verdict r by_r) goes_on))
+          ∙ facts_alike (interfaces_of network) o.written n.written p (same.written (subst GoesOn (old_verdict r by_r) goes_on))
           ∙ sym (new_facts s by_s);
     }
 
-    same_outcome : (r s : HookResult) → Stage stage plant old facts [] r → Stage stage plant new facts [] s → SameResult r s → SameOutcome o n p
+    same_outcome : (r s : HookResult) → Stage stage network old facts [] r → Stage stage network new facts [] s → SameResult r s → SameOutcome o n p
     same_outcome r s by_r by_s same = record {
       verdict = sym (old_verdict r by_r) ∙ same.verdict ∙ new_verdict s by_s;
-      written = λ goes_on. alike_facts (interfaces_of plant) o.written n.written p
+      written = λ goes_on. alike_facts (interfaces_of network) o.written n.written p
           (sym (old_facts r by_r) ∙ same.facts (subst GoesOn (sym (old_verdict r by_r)) goes_on) ∙ new_facts s by_s);
     }
 
-    pub differs_at : (SameOutcome o n p → ⊥) → DiffersAt plant old new stage facts o.verdict n.verdict
+    pub differs_at : (SameOutcome o n p → ⊥) → DiffersAt network old new stage facts o.verdict n.verdict
     differs_at differ =
         let r = old_ways.runs facts [] in
         let s = new_ways.runs facts [] in
@@ -147,18 +147,18 @@ some_difference d (x ∷ xs) p e = elim (holds d x.set p) as (λ b. holds d x.se
           (there.0, Contains-append_right (x ∷ []) xs there.0 there.1, there.2)
     ] refl e
 
-module _ (plant : PlantTree) (old new : List TableTree) (stage : HookStage) (old_ways : StageRunsAreWays plant old stage)
-    (new_ways : StageRunsAreWays plant new stage) (d1 d2 d3 d4 : DiagramsView) (k12 : Keeps d1 d2) (k23 : Keeps d2 d3) (k34 : Keeps d3 d4)
+module _ (network : PlantTree) (old new : List TableTree) (stage : HookStage) (old_ways : StageRunsAreWays network old stage)
+    (new_ways : StageRunsAreWays network new stage) (d1 d2 d3 d4 : DiagramsView) (k12 : Keeps d1 d2) (k23 : Keeps d2 d3) (k34 : Keeps d3 d4)
     (within : Facts → Bool) (coming : PacketSet)
-    (means : Means d1 coming (λ p. can_come_to stage (facts_of (interfaces_of plant) NOTHING p) && within (facts_of (interfaces_of plant) NOTHING p)))
-    (olds news : List (Case StageOutcome)) (by_old : AreStageEnds (interfaces_of plant) (end_of_chains plant old old_ways.order) d1 d2 coming olds)
-    (by_new : AreStageEnds (interfaces_of plant) (end_of_chains plant new new_ways.order) d2 d3 coming news)
+    (means : Means d1 coming (λ p. can_come_to stage (facts_of (interfaces_of network) NOTHING p) && within (facts_of (interfaces_of network) NOTHING p)))
+    (olds news : List (Case StageOutcome)) (by_old : AreStageEnds (interfaces_of network) (end_of_chains network old old_ways.order) d1 d2 coming olds)
+    (by_new : AreStageEnds (interfaces_of network) (end_of_chains network new new_ways.order) d2 d3 coming news)
     (before after : List Difference) (compared : AreCompared d4 stage olds news before after) where
   k24 : Keeps d2 d4
   k24 = keeps_trans d2 d3 d4 k23 k34
 
   abbrev facts_for : (ℕ → Bool) → Facts
-  facts_for p = facts_of (interfaces_of plant) NOTHING p
+  facts_for p = facts_of (interfaces_of network) NOTHING p
 
   old_then : (p : ℕ → Bool) (o : StageOutcome) → Contains (outcomes_for d4 olds p) o → Contains (outcomes_for d2 olds p) o
   old_then p o h = subst (λ l. Contains l o) (outcomes-kept d2 d4 olds p k24 by_old.are) h
@@ -167,44 +167,44 @@ module _ (plant : PlantTree) (old new : List TableTree) (stage : HookStage) (old
   new_then p o h = subst (λ l. Contains l o) (outcomes-kept d3 d4 news p k34 by_new.are) h
 
   by_old_end : (p : ℕ → Bool) (o : StageOutcome) → Contains (outcomes_for d4 olds p) o
-      → end_with (interfaces_of plant) p o ≡ end_of_chains plant old old_ways.order (facts_for p)
-  by_old_end p o h = ends_with (interfaces_of plant) (end_of_chains plant old old_ways.order) d1 d2 coming olds by_old p o (old_then p o h)
+      → end_with (interfaces_of network) p o ≡ end_of_chains network old old_ways.order (facts_for p)
+  by_old_end p o h = ends_with (interfaces_of network) (end_of_chains network old old_ways.order) d1 d2 coming olds by_old p o (old_then p o h)
 
   by_new_end : (p : ℕ → Bool) (o : StageOutcome) → Contains (outcomes_for d4 news p) o
-      → end_with (interfaces_of plant) p o ≡ end_of_chains plant new new_ways.order (facts_for p)
-  by_new_end p o h = ends_with (interfaces_of plant) (end_of_chains plant new new_ways.order) d2 d3 coming news by_new p o (new_then p o h)
+      → end_with (interfaces_of network) p o ≡ end_of_chains network new new_ways.order (facts_for p)
+  by_new_end p o h = ends_with (interfaces_of network) (end_of_chains network new new_ways.order) d2 d3 coming news by_new p o (new_then p o h)
 
-  comes_here : (p : ℕ → Bool) (o : StageOutcome) → Contains (outcomes_for d4 olds p) o → Comes within plant stage (facts_for p)
+  comes_here : (p : ℕ → Bool) (o : StageOutcome) → Contains (outcomes_for d4 olds p) o → Comes within network stage (facts_for p)
   comes_here p o h =
       let both = and_parts (can_come_to stage (facts_for p)) (within (facts_for p)) (sym (means.same p)
-      ∙ in_set (interfaces_of plant) (end_of_chains plant old old_ways.order) d1 d2 coming olds by_old p o (old_then p o h)) in
+      ∙ in_set (interfaces_of network) (end_of_chains network old old_ways.order) d1 d2 coming olds by_old p o (old_then p o h)) in
       record {
-        of_box = bits_of_box (interfaces_of plant) p;
+        of_box = bits_of_box (interfaces_of network) p;
         can = both.0;
         assumed = both.1;
       }
 
-  is_difference : (it : Difference) → IsPair d4 stage olds news it → IsDifference plant old new within d4 it
+  is_difference : (it : Difference) → IsPair d4 stage olds news it → IsDifference network old new within d4 it
   is_difference it pair = record {
     set = pair.set;
     example = pair.example;
-    comes = λ p has. subst (λ s. Comes within plant s (facts_for p)) (sym pair.here) (comes_here p it.old (pair.by_old p has));
-    differ = λ p has. subst (λ s. DiffersAt plant old new s (facts_for p) it.old.verdict it.new.verdict) (sym pair.here)
-        (differs_at plant old new stage old_ways new_ways p it.old it.new (by_old_end p it.old (pair.by_old p has))
+    comes = λ p has. subst (λ s. Comes within network s (facts_for p)) (sym pair.here) (comes_here p it.old (pair.by_old p has));
+    differ = λ p has. subst (λ s. DiffersAt network old new s (facts_for p) it.old.verdict it.new.verdict) (sym pair.here)
+        (differs_at network old new stage old_ways new_ways p it.old it.new (by_old_end p it.old (pair.by_old p has))
         (by_new_end p it.new (pair.by_new p has)) (pair.differ p has));
   }
 
   covered : (p : ℕ → Bool) → can_come_to stage (facts_for p) ≡ true → within (facts_for p) ≡ true
-      → SameAt plant old new stage (facts_for p) ⊎ IsAmong plant old new d4 compared.more stage (facts_for p)
+      → SameAt network old new stage (facts_for p) ⊎ IsAmong network old new d4 compared.more stage (facts_for p)
   covered p can assumed =
       let comes : holds d1 coming p ≡ true = means.same p ∙ ap (λ b. b && within (facts_for p)) can ∙ assumed in
-      let one = some_outcome (interfaces_of plant) (end_of_chains plant old old_ways.order) d1 d2 coming olds by_old p comes in
+      let one = some_outcome (interfaces_of network) (end_of_chains network old old_ways.order) d1 d2 coming olds by_old p comes in
       let old_has = subst (λ l. Contains l one.0) (sym (outcomes-kept d2 d4 olds p k24 by_old.are)) one.1 in
-      let other = some_outcome (interfaces_of plant) (end_of_chains plant new new_ways.order) d2 d3 coming news by_new p
+      let other = some_outcome (interfaces_of network) (end_of_chains network new new_ways.order) d2 d3 coming news by_new p
       (k12.same coming p means.is_set ∙ comes) in
       let new_has = subst (λ l. Contains l other.0) (sym (outcomes-kept d3 d4 news p k34 by_new.are)) other.1 in
       elim (compared.told p one.0 old_has (case_of_outcome d4 p news other.0 new_has)) [
-        | inl same ↦ inl (same_at plant old new stage old_ways new_ways p one.0 same.0 (by_old_end p one.0 old_has) (by_new_end p same.0 same.1) same.2)
+        | inl same ↦ inl (same_at network old new stage old_ways new_ways p one.0 same.0 (by_old_end p one.0 old_has) (by_new_end p same.0 same.1) same.2)
         | inr differs ↦
             let it = some_difference d4 compared.more p differs in
             inr (record {
@@ -217,15 +217,15 @@ module _ (plant : PlantTree) (old new : List TableTree) (stage : HookStage) (old
             })
       ]
 
-  pub stage_added : ((f : Facts) → IsOfBox (interfaces_of plant) f → HasBits (interfaces_of plant) f)
-      → AddsStage plant old new within d4 stage before after
+  pub stage_added : ((f : Facts) → IsOfBox (interfaces_of network) f → HasBits (interfaces_of network) f)
+      → AddsStage network old new within d4 stage before after
   stage_added have_bits = record {
     more = compared.more;
     added = compared.added;
     are = λ i any inside. is_difference (get_or compared.more i any) (compared.pairs i any inside);
     all = λ f comes.
         let bits = have_bits f comes.of_box in
-        subst (λ g. SameAt plant old new stage g ⊎ IsAmong plant old new d4 compared.more stage g) bits.1
+        subst (λ g. SameAt network old new stage g ⊎ IsAmong network old new d4 compared.more stage g) bits.1
         (covered bits.0 (subst (λ g. can_come_to stage g ≡ true) (sym bits.1) comes.can)
         (subst (λ g. within g ≡ true) (sym bits.1) comes.assumed));
   }

@@ -21,22 +21,22 @@ use Rattle.ruleset_diff.specs.declared.differences.Difference.{Difference}
 -- nothing
 abbrev pub assumption : Option (Bor CheckedTree) → Facts → Bool
 assumption None = λ f. true
-assumption (Some filter) = accepts filter.now.plant filter.now.rules
+assumption (Some filter) = accepts filter.now.network filter.now.rules
 
 -- a packet with these facts, of which that is assumed, comes to the stage
-pub record Comes (within : Facts → Bool) (plant : PlantTree) (stage : HookStage) (f : Facts) : Type 0 where
-  pub of_box : IsOfBox (interfaces_of plant) f
+pub record Comes (within : Facts → Bool) (network : PlantTree) (stage : HookStage) (f : Facts) : Type 0 where
+  pub of_box : IsOfBox (interfaces_of network) f
   pub can : can_come_to stage f ≡ true
   pub assumed : within f ≡ true
 
-module _ (plant : PlantTree) (old new : List TableTree) where
+module _ (network : PlantTree) (old new : List TableTree) where
   -- with these facts a packet has results in the stage by both rulesets, with these verdicts, which aren't the
   -- same
   pub record DiffersAt (stage : HookStage) (f : Facts) (verdict other : HookVerdict) : Type 0 where
     pub by_old : HookResult
     pub by_new : HookResult
-    pub is_old : Stage stage plant old f [] by_old
-    pub is_new : Stage stage plant new f [] by_new
+    pub is_old : Stage stage network old f [] by_old
+    pub is_new : Stage stage network new f [] by_new
     pub verdict_by_old : by_old.verdict ≡ verdict
     pub verdict_by_new : by_new.verdict ≡ other
     pub differ : SameResult by_old by_new → ⊥
@@ -47,7 +47,7 @@ module _ (plant : PlantTree) (old new : List TableTree) where
     pub among : Contains its it
     pub here : it.stage ≡ stage
     pub packet : ℕ → Bool
-    pub facts : facts_of (interfaces_of plant) NOTHING packet ≡ f
+    pub facts : facts_of (interfaces_of network) NOTHING packet ≡ f
     pub holds : holds d it.set packet ≡ true
 
   module _ (within : Facts → Bool) where
@@ -56,12 +56,12 @@ module _ (plant : PlantTree) (old new : List TableTree) where
       pub set : IsSet d it.set
       pub example : (packet : ℕ → Bool) × (holds d it.set packet ≡ true)
       pub comes : (packet : ℕ → Bool) → holds d it.set packet ≡ true
-          → Comes within plant it.stage (facts_of (interfaces_of plant) NOTHING packet)
+          → Comes within network it.stage (facts_of (interfaces_of network) NOTHING packet)
       pub differ : (packet : ℕ → Bool) → holds d it.set packet ≡ true
-          → DiffersAt it.stage (facts_of (interfaces_of plant) NOTHING packet) it.old.verdict it.new.verdict
+          → DiffersAt it.stage (facts_of (interfaces_of network) NOTHING packet) it.old.verdict it.new.verdict
 
     -- these are all differences
     pub record AreDifferences (d : DiagramsView) (its : List Difference) : Type 0 where
       pub are : All (IsDifference d) its
-      pub all : (stage : HookStage) (f : Facts) → Comes within plant stage f
-          → SameAt plant old new stage f ⊎ IsAmong d its stage f
+      pub all : (stage : HookStage) (f : Facts) → Comes within network stage f
+          → SameAt network old new stage f ⊎ IsAmong d its stage f

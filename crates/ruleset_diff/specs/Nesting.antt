@@ -12,11 +12,11 @@ use Rattle.chain_ways.specs.Nesting.{SomeNestsOver}
 abbrev pub AssumedNestsOver : ℕ → Option (Bor CheckedTree) → Type 0
 AssumedNestsOver most None = ⊥
 AssumedNestsOver most (Some filter) =
-    SomeNestsOver most filter.now.plant filter.now.rules (filters_of filter.now.rules)
+    SomeNestsOver most filter.now.network filter.now.rules (filters_of filter.now.rules)
 
 -- more than so many, from a base chain of the old ruleset on or of the new one, or in the assumed ruleset
-pub data OneNestsOver (most : ℕ) (plant : PlantTree) (old new : List TableTree)
+pub data OneNestsOver (most : ℕ) (network : PlantTree) (old new : List TableTree)
     (assumed : Option (Bor CheckedTree)) : Type 0 where
-  in_old : SomeNestsOver most plant old (base_chains_of old) → OneNestsOver most plant old new assumed
-  in_new : SomeNestsOver most plant new (base_chains_of new) → OneNestsOver most plant old new assumed
-  in_assumed : AssumedNestsOver most assumed → OneNestsOver most plant old new assumed
+  in_old : SomeNestsOver most network old (base_chains_of old) → OneNestsOver most network old new assumed
+  in_new : SomeNestsOver most network new (base_chains_of new) → OneNestsOver most network old new assumed
+  in_assumed : AssumedNestsOver most assumed → OneNestsOver most network old new assumed

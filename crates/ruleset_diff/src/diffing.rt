@@ -47,7 +47,7 @@ fn coming_within(
     assumed: Option<&Checked>,
     stage: HookStage,
 ) -> Result<PacketSet, WalkError>
-    requires { IfSome assumed (λ filter. interfaces.now ≡ interfaces_of filter.now.plant) }
+    requires { IfSome assumed (λ filter. interfaces.now ≡ interfaces_of filter.now.network) }
     ensures keeps { Keeps diagrams.old diagrams.new }
     ensures value { IfOk result (λ coming. Means diagrams.new coming
         (λ packet. can_come_to stage (facts_of interfaces.now NOTHING packet)
@@ -76,16 +76,16 @@ fn add_stage(
     stage: HookStage,
     differences: &mut Vec<Difference>,
 ) -> Result<(), WalkError>
-    requires same_box { new.now.plant ≡ old.now.plant }
-    requires assumed_box { IfSome assumed (λ filter. filter.now.plant ≡ old.now.plant) }
-    requires interfaces { interfaces.now ≡ interfaces_of old.now.plant }
-    requires old { WellFormed old.now.rules old.now.plant }
-    requires new { WellFormed new.now.rules new.now.plant }
+    requires same_box { new.now.network ≡ old.now.network }
+    requires assumed_box { IfSome assumed (λ filter. filter.now.network ≡ old.now.network) }
+    requires interfaces { interfaces.now ≡ interfaces_of old.now.network }
+    requires old { WellFormed old.now.rules old.now.network }
+    requires new { WellFormed new.now.rules new.now.network }
     ensures keeps { Keeps diagrams.old diagrams.new }
-    ensures adds { OnOk result (AddsStage old.now.plant old.now.rules new.now.rules
+    ensures adds { OnOk result (AddsStage old.now.network old.now.rules new.now.rules
         (assumption assumed.entry) diagrams.new stage differences.old.items differences.new.items) }
     ensures too_deep { IfErr result (λ e. e ≡ TooDeep
-        → OneNestsOver LEVELS old.now.plant old.now.rules new.now.rules assumed.entry) }
+        → OneNestsOver LEVELS old.now.network old.now.rules new.now.rules assumed.entry) }
 {
     facts_have_bits();
     stage_runs_are_ways();
@@ -113,13 +113,13 @@ pub fn ruleset_diff(
     assumed: Option<&Checked>,
     limit: u32,
 ) -> Result<RulesetDiff, WalkError>
-    requires same_box { new.now.plant ≡ old.now.plant }
-    requires assumed_box { IfSome assumed (λ filter. filter.now.plant ≡ old.now.plant) }
-    ensures differences { IfOk result (λ diff. AreDifferences old.now.plant old.now.rules new.now.rules
+    requires same_box { new.now.network ≡ old.now.network }
+    requires assumed_box { IfSome assumed (λ filter. filter.now.network ≡ old.now.network) }
+    ensures differences { IfOk result (λ diff. AreDifferences old.now.network old.now.rules new.now.rules
         (assumption assumed.entry) diff.diagrams diff.differences.items) }
     ensures limit { IfOk result (λ diff. diff.diagrams.limit ≡ limit) }
     ensures too_deep { IfErr result (λ e. e ≡ TooDeep
-        → OneNestsOver LEVELS old.now.plant old.now.rules new.now.rules assumed.entry) }
+        → OneNestsOver LEVELS old.now.network old.now.rules new.now.rules assumed.entry) }
 {
     old.known_bounds();
     new.known_bounds();

@@ -21,6 +21,6 @@ pub record SameResult (result other : HookResult) : Type 0 where
 
 -- with these facts a packet has the same results in the stage by both rulesets
 abbrev pub SameAt : PlantTree → (old new : List TableTree) → HookStage → Facts → Type 0
-SameAt plant old new stage f =
-    (result other : HookResult) → Stage stage plant old f [] result → Stage stage plant new f [] other
+SameAt network old new stage f =
+    (result other : HookResult) → Stage stage network old f [] result → Stage stage network new f [] other
     → SameResult result other

@@ -108,21 +108,21 @@ then_blind first second one two f es later end (hooks.goes_on m r on s) =
 then_blind first second one two f es later end (hooks.stops r ends) =
     let k = one f es later end r in (k.0, hooks.stops k.1 (subst Stops k.2.0 ends), k.2)
 
-module _ (plant : PlantTree) (tables : List TableTree) where
-  base_blind : (b : BaseChain) → IsBlindToEvents (RunsBaseChain plant tables b)
+module _ (network : PlantTree) (tables : List TableTree) where
+  base_blind : (b : BaseChain) → IsBlindToEvents (RunsBaseChain network tables b)
   base_blind b f es later end r =
-      let k = runs_from (table_program plant b.number.table r.table) r.runs later in (
+      let k = runs_from (table_program network b.number.table r.table) r.runs later in (
         with_policy b.number (policy_of b.head) k.0,
         record { table = r.table; stands = r.stands; rules = r.rules; has = r.has; after = k.0; runs = k.1; is = refl },
         subst (λ (e : HookResult). SameEnd e (with_policy b.number (policy_of b.head) k.0)) (sym r.is)
             (closed_same b.number (policy_of b.head) r.after k.0 k.2),
       )
 
-  in_turn_blind : (bs : List BaseChain) → IsBlindToEvents (InTurn plant tables bs)
+  in_turn_blind : (bs : List BaseChain) → IsBlindToEvents (InTurn network tables bs)
   in_turn_blind [] = nothing_blind
-  in_turn_blind (b ∷ bs) = then_blind (RunsBaseChain plant tables b) (InTurn plant tables bs) (base_blind b) (in_turn_blind bs)
+  in_turn_blind (b ∷ bs) = then_blind (RunsBaseChain network tables b) (InTurn network tables bs) (base_blind b) (in_turn_blind bs)
 
-  pub chains_blind : (test : BaseChain → Bool) → IsBlindToEvents (Chains plant tables test)
+  pub chains_blind : (test : BaseChain → Bool) → IsBlindToEvents (Chains network tables test)
   chains_blind test f es later end r =
       let k = in_turn_blind r.order f es later end r.run in
       (k.0, record { order = r.order; in_order = r.in_order; run = k.1 }, k.2)

@@ -82,28 +82,28 @@ with_verdict_alike v w s t same facts info = subst (λ (x : HookVerdict). SameSt
 
 module _ (setup : Setup) (mappings : List Mapping) where
   destination_alike : (v w : HookVerdict) (s t : PathState) → v ≡ w → (GoesOn v → s.facts ≡ t.facts) → s.info ≡ t.info
-      → SameStep (destination_nat_result v (after_destination_nat setup.plant mappings s.facts s.info v) s)
-      (destination_nat_result w (after_destination_nat setup.plant mappings t.facts t.info w) t)
+      → SameStep (destination_nat_result v (after_destination_nat setup.network mappings s.facts s.info v) s)
+      (destination_nat_result w (after_destination_nat setup.network mappings t.facts t.info w) t)
   destination_alike v w s t same facts info =
-      subst (λ (x : HookVerdict). SameStep (destination_nat_result v (after_destination_nat setup.plant mappings s.facts s.info v) s)
-      (destination_nat_result x (after_destination_nat setup.plant mappings t.facts t.info x) t)) same (on v facts)
+      subst (λ (x : HookVerdict). SameStep (destination_nat_result v (after_destination_nat setup.network mappings s.facts s.info v) s)
+      (destination_nat_result x (after_destination_nat setup.network mappings t.facts t.info x) t)) same (on v facts)
     where
       on : (v : HookVerdict) → (GoesOn v → s.facts ≡ t.facts)
-          → SameStep (destination_nat_result v (after_destination_nat setup.plant mappings s.facts s.info v) s)
-          (destination_nat_result v (after_destination_nat setup.plant mappings t.facts t.info v) t)
+          → SameStep (destination_nat_result v (after_destination_nat setup.network mappings s.facts s.info v) s)
+          (destination_nat_result v (after_destination_nat setup.network mappings t.facts t.info v) t)
       on Dropped facts = (refl, info)
       on v facts = (
-        ap_both (λ (f : Facts) (i : CtInfo). facts_after_destination_nat (after_destination_nat setup.plant mappings f i v) f)
+        ap_both (λ (f : Facts) (i : CtInfo). facts_after_destination_nat (after_destination_nat setup.network mappings f i v) f)
             (facts tt) info,
-        ap_both (λ (f : Facts) (i : CtInfo). after_destination_nat setup.plant mappings f i v) (facts tt) info,
+        ap_both (λ (f : Facts) (i : CtInfo). after_destination_nat setup.network mappings f i v) (facts tt) info,
       )
 
   source_alike : (v w : HookVerdict) (s t : PathState) → v ≡ w → (GoesOn v → s.facts ≡ t.facts) → s.info ≡ t.info
-      → SameStep (source_nat_result v (after_source_nat setup.plant mappings s.facts s.info v) s)
-      (source_nat_result w (after_source_nat setup.plant mappings t.facts t.info w) t)
+      → SameStep (source_nat_result v (after_source_nat setup.network mappings s.facts s.info v) s)
+      (source_nat_result w (after_source_nat setup.network mappings t.facts t.info w) t)
   source_alike v w s t same facts info =
-      subst (λ (x : HookVerdict). SameStep (source_nat_result v (after_source_nat setup.plant mappings s.facts s.info v) s)
-      (source_nat_result x (after_source_nat setup.plant mappings t.facts t.info x) t)) same (on v facts)
+      subst (λ (x : HookVerdict). SameStep (source_nat_result v (after_source_nat setup.network mappings s.facts s.info v) s)
+      (source_nat_result x (after_source_nat setup.network mappings t.facts t.info x) t)) same (on v facts)
     where
       found : (v : HookVerdict) (o : Option CtInfo) → s.facts ≡ t.facts → GoesOn v
           → SameStep (source_nat_result v o s) (source_nat_result v o t)
@@ -112,13 +112,13 @@ module _ (setup : Setup) (mappings : List Mapping) where
       found v (Some next) facts on = (ap (facts_after_source_nat next) facts, refl)
 
       on : (v : HookVerdict) → (GoesOn v → s.facts ≡ t.facts)
-          → SameStep (source_nat_result v (after_source_nat setup.plant mappings s.facts s.info v) s)
-          (source_nat_result v (after_source_nat setup.plant mappings t.facts t.info v) t)
+          → SameStep (source_nat_result v (after_source_nat setup.network mappings s.facts s.info v) s)
+          (source_nat_result v (after_source_nat setup.network mappings t.facts t.info v) t)
       on Dropped facts = (refl, info)
       on v facts = subst (λ (o : Option CtInfo). SameStep (source_nat_result v
-          (after_source_nat setup.plant mappings s.facts s.info v) s) (source_nat_result v o t))
-          (ap_both (λ (f : Facts) (i : CtInfo). after_source_nat setup.plant mappings f i v) (facts tt) info)
-          (found v (after_source_nat setup.plant mappings s.facts s.info v) (facts tt) tt)
+          (after_source_nat setup.network mappings s.facts s.info v) s) (source_nat_result v o t))
+          (ap_both (λ (f : Facts) (i : CtInfo). after_source_nat setup.network mappings f i v) (facts tt) info)
+          (found v (after_source_nat setup.network mappings s.facts s.info v) (facts tt) tt)
 
 -- the state with these events
 abbrev with_events : List Event → PathState → PathState
@@ -126,7 +126,7 @@ with_events es t = record t { events = es }
 
 routed_so : (setup : Setup) (es : List Event) (t : PathState) → SameStep (routed setup (with_events es t)) (routed setup t)
 routed_so setup es t =
-    by_owner (is_own setup.plant t.facts.packet.destination) (route setup.plant t.facts.packet.destination)
+    by_owner (is_own setup.network t.facts.packet.destination) (route setup.network t.facts.packet.destination)
   where
     by_ttl : (spent : Bool) (u v : PathState) → SameState u v
         → SameStep (if spent then Drop causes.Ttl (with_events es t) else Continue u) (if spent then Drop causes.Ttl t else Continue v)
@@ -186,14 +186,14 @@ module _ (setup : Setup) (new : List TableTree) where
   after = with_rules new setup
 
   abbrev Does : HookStage → Facts → Type 0
-  Does = SameAt setup.plant setup.rules new
+  Does = SameAt setup.network setup.rules new
 
   -- whatever events are before
   results_same : (stage : HookStage) (f : Facts) (es later : List Event) → Does stage f → (end other : HookResult)
-      → Stage stage setup.plant setup.rules f es end → Stage stage setup.plant new f later other → SameResult end other
+      → Stage stage setup.network setup.rules f es end → Stage stage setup.network new f later other → SameResult end other
   results_same stage f es later does end other x y =
-      let a = chains_blind setup.plant setup.rules (chains_in_stage stage) f es [] end x in
-      let b = chains_blind setup.plant new (chains_in_stage stage) f later [] other y in
+      let a = chains_blind setup.network setup.rules (chains_in_stage stage) f es [] end x in
+      let b = chains_blind setup.network new (chains_in_stage stage) f later [] other y in
       let k : SameResult a.0 b.0 = does a.0 b.0 a.1 b.1 in
       record {
         verdict = a.2.0 ∙ k.verdict ∙ sym b.2.0;
@@ -204,7 +204,7 @@ module _ (setup : Setup) (new : List TableTree) where
       → LeadAlike (RunsStage setup stage) (RunsStage after stage) s t
   stage_alike stage s t does same r q x y =
       let k : SameResult x.end y.end = results_same stage s.facts s.events t.events does x.end y.end x.ran
-      (subst (λ (f : Facts). Stage stage setup.plant new f t.events y.end) (sym same.0) y.ran) in
+      (subst (λ (f : Facts). Stage stage setup.network new f t.events y.end) (sym same.0) y.ran) in
       subst (SameStep r) (sym y.is) (subst (λ (z : StepResult). SameStep z (unless_dropped y.end.verdict (after_chains y.end t))) (sym x.is)
       (with_verdict_alike x.end.verdict y.end.verdict (after_chains x.end s) (after_chains y.end t) k.verdict k.facts same.1))
 
@@ -234,7 +234,7 @@ module _ (setup : Setup) (new : List TableTree) where
     destination_leads s t same does r q x y =
         let k : SameResult x.end y.end = nat_results stages.PreroutingNat s t same does x.end y.end x.ran y.ran in
         subst (SameStep r) (sym y.is) (subst (λ (z : StepResult). SameStep z (destination_nat_result y.end.verdict
-        (after_destination_nat setup.plant mappings y.end.facts t.info y.end.verdict) (after_chains y.end t))) (sym x.is)
+        (after_destination_nat setup.network mappings y.end.facts t.info y.end.verdict) (after_chains y.end t))) (sym x.is)
         (destination_alike setup mappings x.end.verdict y.end.verdict (after_chains x.end s) (after_chains y.end t) k.verdict k.facts
         same.1))
 
@@ -244,7 +244,7 @@ module _ (setup : Setup) (new : List TableTree) where
     source_leads s t same does r q x y =
         let k : SameResult x.end y.end = nat_results stages.PostroutingNat s t same does x.end y.end x.ran y.ran in
         subst (SameStep r) (sym y.is) (subst (λ (z : StepResult). SameStep z (source_nat_result y.end.verdict
-        (after_source_nat setup.plant mappings y.end.facts t.info y.end.verdict) (after_chains y.end t))) (sym x.is)
+        (after_source_nat setup.network mappings y.end.facts t.info y.end.verdict) (after_chains y.end t))) (sym x.is)
         (source_alike setup mappings x.end.verdict y.end.verdict (after_chains x.end s) (after_chains y.end t) k.verdict k.facts
         same.1))
 
@@ -342,7 +342,7 @@ module _ (setup : Setup) (new : List TableTree) where
           (Continue (with_info (looked_up_info t.facts.ct live a.packet) t))) (sym x) (looked_up_alike live a.packet s t same))
 
       abbrev start : PathState
-      start = on_arrival a.packet (interface_facts setup.plant a.interface)
+      start = on_arrival a.packet (interface_facts setup.network a.interface)
 
       pub path_leads : LeadAlike (Path setup live a.packet) (Path after live a.packet) start start
       path_leads =

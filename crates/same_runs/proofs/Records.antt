@@ -69,7 +69,7 @@ module _ (setup : Setup) (new : List TableTree) (same : SameStages setup new) wh
 
     does_same : (a : ReceivedPacket) → carried setup r ≡ Ok a → (stage : HookStage) (others : List ConntrackEntry) (s : PathState)
         → StandsBefore setup live a stage others s → IsSeenBy stage s.info
-        → SameAt setup.plant setup.rules new stage s.facts
+        → SameAt setup.network setup.rules new stage s.facts
     does_same a carries stage others s stands seen = same stage s.facts (record {
       history = history;
       of_bytes = of_bytes;

@@ -44,7 +44,7 @@ module _ (setup : Setup) (live : List ConntrackEntry) (a : ReceivedPacket) where
   -- beside these connections the packet stands before a stage in this state
   pub data StandsBefore : HookStage → List ConntrackEntry → PathState → Type 0 where
     arrived : StandsBefore stages.PreroutingRaw live
-        (on_arrival a.packet (interface_facts setup.plant a.interface))
+        (on_arrival a.packet (interface_facts setup.network a.interface))
     looked_up : (s t u : PathState) → StandsBefore stages.PreroutingRaw live s
         → Passes (RunsStage setup stages.PreroutingRaw) s t → Passes (LookUp live a.packet) t u
         → StandsBefore stages.PreroutingBeforeNat (others_beside u.info live a.packet) u

@@ -18,7 +18,7 @@ with_rules new setup = record setup { rules = new }
 -- each packet that comes to a stage has the same results there by the setup's ruleset and by the other one
 abbrev pub SameStages : Setup → List TableTree → Type 0
 SameStages setup new =
-    (stage : HookStage) (f : Facts) → ComesTo setup stage f → SameAt setup.plant setup.rules new stage f
+    (stage : HookStage) (f : Facts) → ComesTo setup stage f → SameAt setup.network setup.rules new stage f
 
 -- ---- histories
 

@@ -51,10 +51,10 @@ then_sound first second a b sa sb f es hook_result e = followed first second b s
 
 -- ---- base chains
 
-module _ (plant : PlantTree) (tables : List TableTree) (depth : ℕ) where
+module _ (network : PlantTree) (tables : List TableTree) (depth : ℕ) where
   abbrev table_run : BaseChain → Option TableTree → Gives
   table_run b None f es = None
-  table_run b (Some t) f es = option_map (with_policy b.number (policy_of b.head)) (run (table_program plant b.number.table t) depth b.number.chain f es)
+  table_run b (Some t) f es = option_map (with_policy b.number (policy_of b.head)) (run (table_program network b.number.table t) depth b.number.chain f es)
 
   abbrev turn_run : List BaseChain → Gives
   turn_run [] f es = Some (record { verdict = Accepted; facts = f; events = es })
@@ -65,27 +65,27 @@ module _ (plant : PlantTree) (tables : List TableTree) (depth : ℕ) where
 
   closed_sound : (b : BaseChain) (t : TableTree) → slice_get tables b.number.table ≡ Some t
       → (f : Facts) (es : List Event) (hook_result : HookResult) (x : Option RunResult)
-      → run (table_program plant b.number.table t) depth b.number.chain f es ≡ x
+      → run (table_program network b.number.table t) depth b.number.chain f es ≡ x
       → option_map (with_policy b.number (policy_of b.head)) x ≡ Some hook_result
-      → RunsBaseChain plant tables b f es hook_result
+      → RunsBaseChain network tables b f es hook_result
   closed_sound b t at f es hook_result None is e = absurd (none-some hook_result e)
   closed_sound b t at f es hook_result (Some o) is e =
-      let q = run_sound (table_program plant b.number.table t) depth b.number.chain f es o is in
+      let q = run_sound (table_program network b.number.table t) depth b.number.chain f es o is in
       record { table = t; stands = at; rules = q.chain; has = q.stands; after = o; runs = q.runs; is = sym (same_Some _ hook_result e) }
 
-  base_sound : (b : BaseChain) (x : Option TableTree) → slice_get tables b.number.table ≡ x → Sound (table_run b x) (RunsBaseChain plant tables b)
+  base_sound : (b : BaseChain) (x : Option TableTree) → slice_get tables b.number.table ≡ x → Sound (table_run b x) (RunsBaseChain network tables b)
   base_sound b None at f es hook_result e = absurd (none-some hook_result e)
   base_sound b (Some t) at f es hook_result e =
-      closed_sound b t at f es hook_result (run (table_program plant b.number.table t) depth b.number.chain f es) refl e
+      closed_sound b t at f es hook_result (run (table_program network b.number.table t) depth b.number.chain f es) refl e
 
-  turn_sound : (bs : List BaseChain) → Sound (turn_run bs) (InTurn plant tables bs)
+  turn_sound : (bs : List BaseChain) → Sound (turn_run bs) (InTurn network tables bs)
   turn_sound [] f es hook_result e = sym (same_Some _ hook_result e)
   turn_sound (b ∷ bs) f es hook_result e =
-      then_sound (RunsBaseChain plant tables b) (InTurn plant tables bs)
+      then_sound (RunsBaseChain network tables b) (InTurn network tables bs)
       (table_run b (slice_get tables b.number.table)) (turn_run bs)
       (base_sound b (slice_get tables b.number.table) refl) (turn_sound bs) f es hook_result e
 
-  pub chains_sound : (test : BaseChain → Bool) → Sound (chains_run test) (Chains plant tables test)
+  pub chains_sound : (test : BaseChain → Bool) → Sound (chains_run test) (Chains network tables test)
   chains_sound test f es hook_result e =
       let text = filter test (base_chains_of tables) in
       record {

@@ -13,7 +13,7 @@ use std::alloc::{AllocError, Global};
 /// What it takes to tell the packets of sets on a box.
 #[derive(Drop)]
 pub struct SetWords<'a> {
-    plant: &'a Plant,
+    network: &'a Plant,
     fields: Vec<Field>,
 }
 
@@ -22,9 +22,9 @@ impl<'a> SetWords<'a> {
     ///
     /// # Errors
     /// `AllocError` for want of memory.
-    pub fn new(alloc: Global, plant: &'a Plant) -> Result<SetWords<'a>, AllocError> {
+    pub fn new(alloc: Global, network: &'a Plant) -> Result<SetWords<'a>, AllocError> {
         Ok(SetWords {
-            plant,
+            network,
             fields: line_fields(alloc)?,
         })
     }
@@ -75,7 +75,7 @@ impl SetWords<'_> {
     {
         for line in lines {
             let mut words = Vec::new(alloc);
-            put_line(&mut words, alloc, line, self.plant)?;
+            put_line(&mut words, alloc, line, self.network)?;
             put_below(text, lead, &words)?;
         }
         Ok(())

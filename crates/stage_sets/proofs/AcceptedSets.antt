@@ -38,11 +38,11 @@ accepted_more d0 d e all i any set set' inside is k was means = record {
 
 -- ---- the filter chains of a ruleset
 
-pub accepted_by_filters : (interfaces : List Interface) (plant : PlantTree) (tables : List TableTree) (d0 d e : DiagramsView) (set accepted : PacketSet)
-    (outcomes : List (Case StageOutcome)) → AreStageEnds interfaces (end_of_chains plant tables (filters_of tables)) d0 d set outcomes
+pub accepted_by_filters : (interfaces : List Interface) (network : PlantTree) (tables : List TableTree) (d0 d e : DiagramsView) (set accepted : PacketSet)
+    (outcomes : List (Case StageOutcome)) → AreStageEnds interfaces (end_of_chains network tables (filters_of tables)) d0 d set outcomes
     → Means e accepted (λ packet. some_outcome d outcomes packet goes_accepted)
-    → Means e accepted (λ packet. holds d0 set packet && accepts plant tables (facts_of interfaces NOTHING packet))
-accepted_by_filters interfaces plant tables d0 d e set accepted outcomes ends means = record {
+    → Means e accepted (λ packet. holds d0 set packet && accepts network tables (facts_of interfaces NOTHING packet))
+accepted_by_filters interfaces network tables d0 d e set accepted outcomes ends means = record {
   is_set = means.is_set;
   same = λ packet.
       let test = λ (end : StageEnd). is_accepted end.verdict in

@@ -46,17 +46,17 @@ in-turn one two both same Accepted f = same f
 in-turn one two both same Dropped f = refl
 in-turn one two both same (Translated t) f = refl
 
-module _ (plant : PlantTree) (tables : List TableTree) where
+module _ (network : PlantTree) (tables : List TableTree) where
   end_of_more : (bs : List BaseChain) (b : BaseChain) (f : Facts)
-      → end_of_chains plant tables (bs ++ b ∷ []) f ≡ behind_end (base_end plant tables b) (end_of_chains plant tables bs f)
-  end_of_more [] b f = accepts (base_end plant tables b f).verdict (base_end plant tables b f).facts
+      → end_of_chains network tables (bs ++ b ∷ []) f ≡ behind_end (base_end network tables b) (end_of_chains network tables bs f)
+  end_of_more [] b f = accepts (base_end network tables b f).verdict (base_end network tables b f).facts
   end_of_more (x ∷ xs) b f =
-      in-turn (end_of_chains plant tables xs) (base_end plant tables b) (end_of_chains plant tables (xs ++ b ∷ [])) (end_of_more xs b)
-      (base_end plant tables x f).verdict (base_end plant tables x f).facts
+      in-turn (end_of_chains network tables xs) (base_end network tables b) (end_of_chains network tables (xs ++ b ∷ [])) (end_of_more xs b)
+      (base_end network tables x f).verdict (base_end network tables x f).facts
 
   module _ (interfaces : List Interface) (set : PacketSet) where
     pub none_yet : (d : DiagramsView) → IsSet d set
-        → AreStageEnds interfaces (end_of_chains plant tables []) d d set (record { set = set; outcome = unchanged } ∷ [])
+        → AreStageEnds interfaces (end_of_chains network tables []) d d set (record { set = set; outcome = unchanged } ∷ [])
     none_yet d is = record {
       are = (is, tt);
       they_end = λ packet test.
@@ -65,12 +65,12 @@ module _ (plant : PlantTree) (tables : List TableTree) where
     }
 
     pub one_more : (d0 d e : DiagramsView) (bs : List BaseChain) (b : BaseChain) (before after : List (Case StageOutcome))
-        → AreStageEnds interfaces (end_of_chains plant tables bs) d0 d set before → Advances interfaces (base_end plant tables b) d e before after
-        → AreStageEnds interfaces (end_of_chains plant tables (bs ++ b ∷ [])) d0 e set after
+        → AreStageEnds interfaces (end_of_chains network tables bs) d0 d set before → Advances interfaces (base_end network tables b) d e before after
+        → AreStageEnds interfaces (end_of_chains network tables (bs ++ b ∷ [])) d0 e set after
     one_more d0 d e bs b before after was step = record {
       are = step.are;
       they_end = λ packet test.
-          let behind = λ (end : StageEnd). test (behind_end (base_end plant tables b) end) in
+          let behind = λ (end : StageEnd). test (behind_end (base_end network tables b) end) in
           sym (any_of_map test (end_with interfaces packet) (outcomes_for e after packet)) ∙ step.same packet test
           ∙ any_of_map behind (end_with interfaces packet) (outcomes_for d before packet) ∙ was.they_end packet behind
           ∙ ap (λ end. holds d0 set packet && test end) (sym (end_of_more bs b (facts_of interfaces NOTHING packet)));
@@ -78,16 +78,16 @@ module _ (plant : PlantTree) (tables : List TableTree) where
 
   -- the table at its index
   pub at_index : (interfaces : List Interface) (b : BaseChain) (names : TableTree) (d e : DiagramsView) (seen before after : List (Case StageOutcome))
-      → slice_get tables b.number.table ≡ Some names → seen ≡ before → Advances interfaces (end_in plant names b) d e seen after
-      → Advances interfaces (base_end plant tables b) d e before after
+      → slice_get tables b.number.table ≡ Some names → seen ≡ before → Advances interfaces (end_in network names b) d e seen after
+      → Advances interfaces (base_end network tables b) d e before after
   at_index interfaces b names d e seen before after at same step =
-      subst (λ t. Advances interfaces (end_in plant t b) d e before after) (sym (get_or_from_slice_get tables b.number.table names _ at))
-      (subst (λ l. Advances interfaces (end_in plant names b) d e l after) same step)
+      subst (λ t. Advances interfaces (end_in network t b) d e before after) (sym (get_or_from_slice_get tables b.number.table names _ at))
+      (subst (λ l. Advances interfaces (end_in network names b) d e l after) same step)
 
-pub same_ends : (interfaces interfaces' : List Interface) (plant plant' : PlantTree) (tables tables' : List TableTree) (bs bs' : List BaseChain)
-    (d e : DiagramsView) (set : PacketSet) (outcomes : List (Case StageOutcome)) → interfaces ≡ interfaces' → plant ≡ plant' → tables ≡ tables'
-    → bs ≡ bs' → AreStageEnds interfaces (end_of_chains plant tables bs) d e set outcomes
-    → AreStageEnds interfaces' (end_of_chains plant' tables' bs') d e set outcomes
+pub same_ends : (interfaces interfaces' : List Interface) (network network' : PlantTree) (tables tables' : List TableTree) (bs bs' : List BaseChain)
+    (d e : DiagramsView) (set : PacketSet) (outcomes : List (Case StageOutcome)) → interfaces ≡ interfaces' → network ≡ network' → tables ≡ tables'
+    → bs ≡ bs' → AreStageEnds interfaces (end_of_chains network tables bs) d e set outcomes
+    → AreStageEnds interfaces' (end_of_chains network' tables' bs') d e set outcomes
 same_ends i i' p p' ts ts' bs bs' d e set outcomes of_i of_p of_ts of_bs are =
     subst (λ x. AreStageEnds i' (end_of_chains p' ts' x) d e set outcomes) of_bs
     (subst (λ x. AreStageEnds i' (end_of_chains p' x bs) d e set outcomes) of_ts
@@ -102,11 +102,11 @@ none_at p [] i x none is = cc
 none_at p (y ∷ ys) zero x none is = let e : y ≡ x = cc in ap p (sym e) ∙ (or_parts (p y) (list_any p ys) none).0
 none_at p (y ∷ ys) (suc i) x none is = none_at p ys i x (or_parts (p y) (list_any p ys) none).1 is
 
-pub types_at : (plant : PlantTree) (tables : List TableTree) (i : ℕ) (t : TableTree) → WellFormed tables plant → slice_get tables i ≡ Some t
+pub types_at : (network : PlantTree) (tables : List TableTree) (i : ℕ) (t : TableTree) → WellFormed tables network → slice_get tables i ≡ Some t
     → table_mismatches t ≡ false
-types_at plant tables i t fine at = none_at table_mismatches tables i t (false_from_ne_true _ (fine faults.TypeMismatch)) at
+types_at network tables i t fine at = none_at table_mismatches tables i t (false_from_ne_true _ (fine faults.TypeMismatch)) at
 
-pub bounds_at : (plant : PlantTree) (tables : List TableTree) (i : ℕ) (t : TableTree) → WellFormed tables plant → slice_get tables i ≡ Some t
+pub bounds_at : (network : PlantTree) (tables : List TableTree) (i : ℕ) (t : TableTree) → WellFormed tables network → slice_get tables i ≡ Some t
     → list_any item_out_of_range t.items ≡ false
-bounds_at plant tables i t fine at =
-    (or_parts _ _ (none_at (has_wrong_value plant) tables i t (false_from_ne_true _ (fine faults.WrongValue)) at)).1
+bounds_at network tables i t fine at =
+    (or_parts _ _ (none_at (has_wrong_value network) tables i t (false_from_ne_true _ (fine faults.WrongValue)) at)).1

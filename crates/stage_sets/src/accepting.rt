@@ -81,19 +81,19 @@ pub fn accepted(
     ensures keeps { Keeps diagrams.old diagrams.new }
     ensures value { IfOk result (λ accepted. Means diagrams.new accepted
         (λ packet. holds diagrams.old set packet
-        && accepts checked.entry.now.plant checked.entry.now.rules
-        (facts_of (interfaces_of checked.entry.now.plant) NOTHING packet))) }
+        && accepts checked.entry.now.network checked.entry.now.rules
+        (facts_of (interfaces_of checked.entry.now.network) NOTHING packet))) }
     ensures too_large { IfErr result (λ e. e ≡ walks.TooLarge
         → diagrams.new.limit ≤ length diagrams.new.nodes) }
     ensures too_deep { IfErr result (λ e. e ≡ walks.TooDeep
-        → SomeNestsOver LEVELS checked.entry.now.plant checked.entry.now.rules
+        → SomeNestsOver LEVELS checked.entry.now.network checked.entry.now.rules
         (filters_of checked.entry.now.rules)) }
 {
     checked.known_bounds();
-    let plant = checked.plant();
+    let network = checked.plant();
     let tables = checked.names(alloc)?;
-    let interfaces = box_interfaces(alloc, plant)?;
+    let interfaces = box_interfaces(alloc, network)?;
     let bases = text_bases(alloc, &tables, Asked::Filters)?;
-    let outcomes = through_all(alloc, diagrams, plant, &tables, &interfaces, &bases, set)?;
+    let outcomes = through_all(alloc, diagrams, network, &tables, &interfaces, &bases, set)?;
     Ok(accepted_of(diagrams, &outcomes)?)
 }

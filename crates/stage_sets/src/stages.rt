@@ -46,29 +46,29 @@ fn unchanged(alloc: Global, set: PacketSet) -> Result<Vec<Case<StageOutcome>>, A
 pub(crate) fn through_all(
     alloc: Global,
     diagrams: &mut Diagrams,
-    plant: &Plant,
+    network: &Plant,
     tables: &[TableNames<'_>],
     interfaces: &Interfaces,
     bases: &[Base<'_>],
     set: PacketSet,
 ) -> Result<Vec<Case<StageOutcome>>, WalkError>
-    requires fine { WellFormed tables.now plant.now }
+    requires fine { WellFormed tables.now network.now }
     requires bases { All (StandsIn tables.now) bases.now }
     requires set { IsSet diagrams.old set }
     ensures keeps { Keeps diagrams.old diagrams.new }
     ensures value { IfOk result (λ outcomes. AreStageEnds interfaces.now
-        (end_of_chains plant.now tables.now (map base_chain bases.now))
+        (end_of_chains network.now tables.now (map base_chain bases.now))
         diagrams.old diagrams.new set outcomes.items) }
     ensures too_large { IfErr result (λ e. e ≡ TooLarge
         → diagrams.new.limit ≤ length diagrams.new.nodes) }
     ensures too_deep { IfErr result (λ e. e ≡ TooDeep
-        → SomeNestsOver LEVELS plant.now tables.now (map base_chain bases.now)) }
+        → SomeNestsOver LEVELS network.now tables.now (map base_chain bases.now)) }
 {
     let mut outcomes = unchanged(alloc, set)?;
     for base in bases {
         let names = &tables[base.number.table as usize];
         let place = Place {
-            setting: Setting { plant, names },
+            setting: Setting { network, names },
             interfaces,
         };
         outcomes = through(alloc, diagrams, place, *base, &outcomes)?;
@@ -95,20 +95,20 @@ pub fn stage_outcomes(
     ensures keeps { Keeps diagrams.old diagrams.new }
     ensures value { IfOk result (λ outcomes. (order : List BaseChain)
         → AreChainsOf checked.entry.now.rules stage order
-        → AreStageEnds (interfaces_of checked.entry.now.plant)
-        (end_of_chains checked.entry.now.plant checked.entry.now.rules order)
+        → AreStageEnds (interfaces_of checked.entry.now.network)
+        (end_of_chains checked.entry.now.network checked.entry.now.rules order)
         diagrams.old diagrams.new set outcomes.items) }
     ensures too_large { IfErr result (λ e. e ≡ TooLarge
         → diagrams.new.limit ≤ length diagrams.new.nodes) }
     ensures too_deep { IfErr result (λ e. e ≡ TooDeep
-        → SomeNestsOver LEVELS checked.entry.now.plant checked.entry.now.rules
+        → SomeNestsOver LEVELS checked.entry.now.network checked.entry.now.rules
         (filter (chains_in_stage stage) (base_chains_of checked.entry.now.rules))) }
 {
     checked.known_bounds();
     hook_result_unique();
-    let plant = checked.plant();
+    let network = checked.plant();
     let tables = checked.names(alloc)?;
-    let interfaces = box_interfaces(alloc, plant)?;
+    let interfaces = box_interfaces(alloc, network)?;
     let bases = stage_bases(alloc, &tables, stage)?;
-    through_all(alloc, diagrams, plant, &tables, &interfaces, &bases, set)
+    through_all(alloc, diagrams, network, &tables, &interfaces, &bases, set)
 }

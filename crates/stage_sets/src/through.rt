@@ -43,17 +43,17 @@ pub(crate) fn through(
     requires outcomes { AreCases diagrams.old outcomes.now }
     ensures keeps { Keeps diagrams.old diagrams.new }
     ensures value { IfOk result (λ after. Advances place.entry.interfaces.now
-        (end_in place.entry.setting.plant.now place.entry.setting.names.now (base_chain base.entry))
+        (end_in place.entry.setting.network.now place.entry.setting.names.now (base_chain base.entry))
         diagrams.old diagrams.new outcomes.now after.items) }
     ensures too_large { IfErr result (λ e. e ≡ TooLarge
         → diagrams.new.limit ≤ length diagrams.new.nodes) }
     ensures too_deep { IfErr result (λ e. e ≡ TooDeep → NestsOver
-        (table_program place.entry.setting.plant.now base.entry.number.table
+        (table_program place.entry.setting.network.now base.entry.number.table
         place.entry.setting.names.now) LEVELS base.entry.number.chain) }
 {
     let setting = place.setting;
     let interfaces = place.interfaces;
-    let mut lookups = declared(alloc, setting.plant, setting.names)?;
+    let mut lookups = declared(alloc, setting.network, setting.names)?;
     let parts = going(alloc, outcomes)?;
     let states = merged(alloc, diagrams, &parts)?;
     let sets = chain_sets_from(

@@ -52,7 +52,7 @@ at_least_one = record {
 -- ---- the path
 
 module _ (P : (A : Type 0) → (A → Type 0) → Type 0) (law : IsKept P) (setup : Setup)
-    (chains : (test : BaseChain → Bool) (f : Facts) (es : List Event) → P HookResult (Chains setup.plant setup.rules test f es))
+    (chains : (test : BaseChain → Bool) (f : Facts) (es : List Event) → P HookResult (Chains setup.network setup.rules test f es))
   where
     abbrev Keeps : Step → Type 0
     Keeps step = (s : PathState) → P StepResult (step s)
@@ -64,7 +64,7 @@ module _ (P : (A : Type 0) → (A → Type 0) → Type 0) (law : IsKept P) (setu
     by_function f s = law.exact StepResult (f s)
 
     run : (stage : HookStage) → Keeps (RunsStage setup stage)
-    run stage s = law.image HookResult StepResult (Chains setup.plant setup.rules (chains_in_stage stage) s.facts s.events)
+    run stage s = law.image HookResult StepResult (Chains setup.network setup.rules (chains_in_stage stage) s.facts s.events)
         (RunsStage setup stage s) (λ (e : HookResult). unless_dropped e.verdict (after_chains e s)) (λ r x. (x.end, x.ran, x.is))
         (λ e x. record { end = e; ran = x; is = refl }) (chains (chains_in_stage stage) s.facts s.events)
 
@@ -75,13 +75,13 @@ module _ (P : (A : Type 0) → (A → Type 0) → Type 0) (law : IsKept P) (setu
     destination : (mappings : List Mapping) → Keeps (DestinationNat setup mappings)
     destination mappings s = law.image HookResult StepResult (NatChains setup stages.PreroutingNat s.info s.facts s.events)
         (DestinationNat setup mappings s) (λ (e : HookResult). destination_nat_result e.verdict
-        (after_destination_nat setup.plant mappings e.facts s.info e.verdict) (after_chains e s)) (λ r x. (x.end, x.ran, x.is))
+        (after_destination_nat setup.network mappings e.facts s.info e.verdict) (after_chains e s)) (λ r x. (x.end, x.ran, x.is))
         (λ e x. record { end = e; ran = x; is = refl }) (run_nat stages.PreroutingNat s.info s.facts s.events)
 
     source : (mappings : List Mapping) → Keeps (SourceNat setup mappings)
     source mappings s = law.image HookResult StepResult (NatChains setup stages.PostroutingNat s.info s.facts s.events)
         (SourceNat setup mappings s) (λ (e : HookResult). source_nat_result e.verdict
-        (after_source_nat setup.plant mappings e.facts s.info e.verdict) (after_chains e s)) (λ r x. (x.end, x.ran, x.is))
+        (after_source_nat setup.network mappings e.facts s.info e.verdict) (after_chains e s)) (λ r x. (x.end, x.ran, x.is))
         (λ e x. record { end = e; ran = x; is = refl }) (run_nat stages.PostroutingNat s.info s.facts s.events)
 
     beyond : (mappings : List Mapping) (output : Option Interface) → Keeps (InputOrForward setup mappings output)
@@ -105,7 +105,7 @@ module _ (P : (A : Type 0) → (A → Type 0) → Type 0) (law : IsKept P) (setu
     entry : (live : List ConntrackEntry) (now : ℕ) (a : Result ReceivedPacket Cause) → P Entry (EntryOf setup live now a)
     entry live now (Err cause) = law.exact Entry (entry_without_packet now cause)
     entry live now (Ok a) =
-        let s = on_arrival a.packet (interface_facts setup.plant a.interface) in
+        let s = on_arrival a.packet (interface_facts setup.network a.interface) in
         law.image StepResult Entry (Path setup live a.packet s) (EntryOf setup live now (Ok a)) (entry_of_packet now live a.packet)
         (λ e x. x) (λ r x. (r, x, refl)) (path live a.packet s)
 

@@ -42,8 +42,8 @@ cause_of headers.Transport = causes.Transport
 
 -- the input interface: the link header's, if the box has it; without one the box file's default (own)
 abbrev pub input_interface : Setup → Option ℕ → Option ℕ
-input_interface setup None = Some setup.plant.entering
-input_interface setup (Some index) = option_map (λ name. index) (name_of setup.plant index)
+input_interface setup None = Some setup.network.entering
+input_interface setup (Some index) = option_map (λ name. index) (name_of setup.network index)
 
 -- the packet of a record, or why it carries none: the first test that fails, of the link header, the input
 -- interface and the packet's headers (RFC 791), in this order (own)
@@ -77,4 +77,4 @@ packet_facts p = record {
 
 -- an interface of the box; its name is padded with zeros
 abbrev pub interface_facts : PlantTree → ℕ → Interface
-interface_facts plant index = record { index = index; name = padded 0 (unwrap_or (name_of plant index) []) }
+interface_facts network index = record { index = index; name = padded 0 (unwrap_or (name_of network index) []) }

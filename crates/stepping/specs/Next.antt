@@ -110,7 +110,7 @@ entry_without_packet now cause = record {
 abbrev pub EntryOf : Setup → List ConntrackEntry → ℕ → Result ReceivedPacket Cause → Entry → Type 0
 EntryOf setup live now (Err cause) e = e ≡ entry_without_packet now cause
 EntryOf setup live now (Ok a) e = (r : StepResult)
-    × Path setup live a.packet (on_arrival a.packet (interface_facts setup.plant a.interface)) r
+    × Path setup live a.packet (on_arrival a.packet (interface_facts setup.network a.interface)) r
     × (e ≡ entry_of_packet now live a.packet r)
 
 -- the time of a record is the greatest of its own and all earlier ones (own)

@@ -66,14 +66,14 @@ unless_dropped _ s = Continue s
 -- the base chains of a stage
 pub record RunsStage (setup : Setup) (stage : HookStage) (s : PathState) (r : StepResult) : Type 0 where
   pub end : HookResult
-  pub ran : Stage stage setup.plant setup.rules s.facts s.events end
+  pub ran : Stage stage setup.network setup.rules s.facts s.events end
   pub is : r ≡ unless_dropped end.verdict (after_chains end s)
 
 -- ---- NAT, among these live mappings
 
 -- only the first packet of a connection sees chains of type nat (nft(8), CHAINS)
 abbrev pub NatChains : Setup → HookStage → CtInfo → Traversal
-NatChains setup stage (New new_connection) = Stage stage setup.plant setup.rules
+NatChains setup stage (New new_connection) = Stage stage setup.network setup.rules
 NatChains setup stage _ = NoChain
 
 abbrev pub destination_nat_result : HookVerdict → CtInfo → PathState → StepResult
@@ -86,7 +86,7 @@ pub record DestinationNat (setup : Setup) (mappings : List Mapping) (s : PathSta
   pub end : HookResult
   pub ran : NatChains setup stages.PreroutingNat s.info s.facts s.events end
   pub is : r ≡ destination_nat_result end.verdict
-      (after_destination_nat setup.plant mappings end.facts s.info end.verdict) (after_chains end s)
+      (after_destination_nat setup.network mappings end.facts s.info end.verdict) (after_chains end s)
 
 -- the packet is dropped where no port is free
 abbrev pub source_nat_result : HookVerdict → Option CtInfo → PathState → StepResult
@@ -100,7 +100,7 @@ pub record SourceNat (setup : Setup) (mappings : List Mapping) (s : PathState) (
   pub end : HookResult
   pub ran : NatChains setup stages.PostroutingNat s.info s.facts s.events end
   pub is : r ≡ source_nat_result end.verdict
-      (after_source_nat setup.plant mappings end.facts s.info end.verdict) (after_chains end s)
+      (after_source_nat setup.network mappings end.facts s.info end.verdict) (after_chains end s)
 
 -- ---- routing
 
@@ -110,15 +110,15 @@ forwarded_by setup None s = Drop causes.Route s
 forwarded_by setup (Some interface) s = if nat_lt s.facts.packet.ttl 2 then Drop causes.Ttl s
     else Continue (record s {
       facts = record s.facts {
-        output = Some (interface_facts setup.plant interface);
+        output = Some (interface_facts setup.network interface);
         packet = record s.facts.packet { ttl = s.facts.packet.ttl - 1 };
       };
     })
 
 -- a packet to an address of the box gets no output interface; the others are forwarded
 abbrev pub routed : Setup → PathState → StepResult
-routed setup s = if is_own setup.plant s.facts.packet.destination then Continue s
-    else forwarded_by setup (route setup.plant s.facts.packet.destination) s
+routed setup s = if is_own setup.network s.facts.packet.destination then Continue s
+    else forwarded_by setup (route setup.network s.facts.packet.destination) s
 
 abbrev pub Routing : Setup → Step
 Routing setup s r = r ≡ routed setup s

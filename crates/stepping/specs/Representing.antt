@@ -45,7 +45,7 @@ pub record EngineState : Type 0 where
 
 -- the configuration of a checked ruleset
 abbrev pub setup_of : CheckedTree → Setup
-setup_of checked = record { rules = checked.rules; plant = checked.plant }
+setup_of checked = record { rules = checked.rules; network = checked.network }
 
 abbrev pub newest_of : List Entry → Option ShownEntry
 newest_of [] = None

@@ -27,7 +27,7 @@ pub fn carried<'a>(setup: &'a Setup, record: &Record<'a>) -> Result<IncomingPack
     ensures carried { received_in result ≡ carried (setup_in setup.now.hooks) (recorded_of record.now) }
     ensures known { IfOk result (λ incoming.
         incoming.input.now
-        ≡ interface_facts setup.now.hooks.plant incoming.input.now.index) }
+        ≡ interface_facts setup.now.hooks.network incoming.input.now.index) }
 {
     let link = match record.link() {
         Ok(link) => link,

@@ -10,6 +10,7 @@ ghost use Rattle.nft_tree.specs.TreeViews.{tables_of};
 ghost use Rattle.rule_paths.specs.Paths.{AreAllCosts, Caller, ruleset_cost};
 ghost use Rattle.stepping.specs.Next.{Next};
 ghost use Rattle.stepping.specs.Representing.{Represents, sent_packets, packet_of, sends_of, setup_of, recorded_of};
+ghost use Rattle.filter_vm.specs.declared.events.TheConstants.{MOST_EVENTS};
 
 use crate::laws::extends_history;
 use crate::packet_buffer::PacketBuffer;
@@ -252,7 +253,7 @@ impl<T: Tracker> Engine<T> {
         ensures newest { (history : List Entry) → Represents self.now history
             → IsNewest (Some result.entry) history }
         // A record has no more events than a ruleset may cost.
-        ensures few { length result.entry.events.now ≤ 65536 }
+        ensures few { length result.entry.events.now ≤ MOST_EVENTS }
         ensures sends { sent_packets result.leaving ≡ sends_of self.now.newest }
         ensures fits { IfSome result.leaving (λ leaving. IsSent (sent leaving)) }
     {
@@ -283,7 +284,7 @@ impl<T: Tracker> Engine<T> {
         ensures newest { (history : List Entry) → Represents self.now history
             → IsNewest result history }
         // A record has no more events than a ruleset may cost.
-        ensures few { IfSome result (λ entry. length entry.events.now ≤ 65536) }
+        ensures few { IfSome result (λ entry. length entry.events.now ≤ MOST_EVENTS) }
     {
         if self.ended.is_none() {
             return None;
@@ -328,7 +329,7 @@ impl<T: Tracker> Engine<T> {
 
     /// The law that the ruleset is well-formed. It does nothing.
     pub fn judged(&self)
-        ensures { WellFormed self.now.setup.rules self.now.setup.plant }
+        ensures { WellFormed self.now.setup.rules self.now.setup.network }
     {
         self.setup.hooks.checked().known_bounds();
     }

@@ -65,12 +65,12 @@ fn route(setup: &Setup, state: &mut PacketState) -> Result<(), Cause>
     ensures info { state.new.info ≡ state.old.info }
     ensures entry { state.new.entry ≡ state.old.entry }
 {
-    let plant = setup.plant();
+    let network = setup.plant();
     let destination = state.facts.packet.destination;
-    if plant.is_own(destination) {
+    if network.is_own(destination) {
         return Ok(());
     }
-    let Some(interface) = plant.route(destination) else {
+    let Some(interface) = network.route(destination) else {
         return Err(Cause::Route);
     };
     if state.facts.packet.ttl < 2 {

@@ -13,13 +13,13 @@ use std::alloc::{AllocError, Global};
 ///
 /// # Errors
 /// An allocation failed.
-pub fn interfaces_of(alloc: Global, plant: &Plant) -> Result<Vec<Interface>, AllocError>
-    ensures { IfOk result (λ found. found.items ≡ interfaces_of plant.now) }
+pub fn interfaces_of(alloc: Global, network: &Plant) -> Result<Vec<Interface>, AllocError>
+    ensures { IfOk result (λ found. found.items ≡ interfaces_of network.now) }
 {
-    let indexes = plant.indexes(alloc)?;
+    let indexes = network.indexes(alloc)?;
     indexes
         .iter()
-        .map(|index| interface_facts(plant, *index))
+        .map(|index| interface_facts(network, *index))
         .collect(alloc)
 }
 
@@ -39,10 +39,10 @@ pub fn find_interface(interfaces: &[Interface], index: u32) -> Option<&Interface
 }
 
 /// The interface of this index, which the box has.
-pub fn interface_facts(plant: &Plant, index: u32) -> Interface
-    ensures { result ≡ interface_facts plant.now index }
+pub fn interface_facts(network: &Plant, index: u32) -> Interface
+    ensures { result ≡ interface_facts network.now index }
 {
-    let name = match plant.name(index) {
+    let name = match network.name(index) {
         Some(name) => name_number(name),
         None => name_number(&[]),
     };

@@ -22,7 +22,7 @@ use translation::laws::independent_of_ids as mappings_aside;
 /// well-formed.
 pub fn one_entry()
     ensures some { (setup : Setup) (history : List Entry) (r : Recorded)
-        → WellFormed setup.rules setup.plant → (e : Entry) × Next setup history r e }
+        → WellFormed setup.rules setup.network → (e : Entry) × Next setup history r e }
     ensures one { (setup : Setup) (history : List Entry) (r : Recorded) (e other : Entry)
         → Next setup history r e → Next setup history r other → e ≡ other }
 {

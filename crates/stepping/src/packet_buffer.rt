@@ -21,13 +21,15 @@ pub struct PacketBuffer {
 
 impl Model for PacketBuffer {
     ghost use Rattle.std.specs.Prelude.{◌≡◌, ◌≤◌, ℕ, List, take, length, vec_capacity};
+    ghost use Rattle.stepping.specs.declared.packet_buffer.TheConstants.{MOST_PACKET_BYTES};
 
     ghost Value = { List ℕ };
 
     ghost view = { λ b. take b.len b.bytes.items };
 
     ghost invariant = { λ b. (b.len ≤ length b.bytes.items)
-        × (length b.bytes.items ≡ 65535) × (vec_capacity b.bytes ≡ 65535) };
+        × (length b.bytes.items ≡ MOST_PACKET_BYTES)
+        × (vec_capacity b.bytes ≡ MOST_PACKET_BYTES) };
 }
 
 impl PacketBuffer {
@@ -49,7 +51,7 @@ impl PacketBuffer {
     #[inline(always)]
     pub fn as_slice(&self) -> &[u8]
         ensures bytes { result.now ≡ self.now }
-        ensures short { length result.now ≤ 65535 }
+        ensures short { length result.now ≤ MOST_PACKET_BYTES }
     {
         &self.bytes[..self.len]
     }

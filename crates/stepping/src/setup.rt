@@ -10,6 +10,7 @@ ghost use Rattle.stepping.specs.Representing.{setup_of};
 ghost use Rattle.stepping.specs.Paths.{RunsStage};
 ghost use Rattle.stepping.specs.steps.Interfaces.{interfaces_of};
 ghost use Rattle.stepping.specs.steps.Steps.{HasRoom, Spends, TakesStep, setup_in};
+ghost use Rattle.filter_vm.specs.declared.events.TheConstants.{MOST_EVENTS};
 
 use crate::interfaces::{find_interface, interface_facts, interfaces_of};
 use crate::state::PacketState;
@@ -27,9 +28,9 @@ pub struct Setup {
     pub entering: Interface,
     /// The interfaces of the box.
     interfaces: Vec<Interface>,
-    pub ghost laid_out: { interfaces.items ≡ interfaces_of hooks.plant },
-    pub ghost enters: { entering ≡ interface_facts hooks.plant hooks.plant.entering },
-    pub ghost few: { total_stage_cost hooks ≤ 65536 },
+    pub ghost laid_out: { interfaces.items ≡ interfaces_of hooks.network },
+    pub ghost enters: { entering ≡ interface_facts hooks.network hooks.network.entering },
+    pub ghost few: { total_stage_cost hooks ≤ MOST_EVENTS },
     pub ghost costs: { (cost : TableTree → Caller → ℕ) → AreAllCosts hooks.rules cost
         → total_stage_cost hooks ≤ ruleset_cost cost hooks.rules },
 }
@@ -43,9 +44,9 @@ impl Setup {
         ensures setup { IfOk result (λ made. setup_in made.0.hooks ≡ setup_of checked) }
         ensures events { IfOk result (λ made. made.1 ≡ record { events = []; ticks = 0 }) }
     {
-        let plant = checked.plant();
-        let entering = interface_facts(plant, plant.entering());
-        let interfaces = interfaces_of(alloc, plant)?;
+        let network = checked.plant();
+        let entering = interface_facts(network, network.entering());
+        let interfaces = interfaces_of(alloc, network)?;
         let (hooks, events) = HookRuns::new(alloc, checked)?;
         // The stages together have no more events than are reserved.
         hooks.costs();
@@ -59,7 +60,7 @@ impl Setup {
 
     /// The box file.
     pub fn plant(&self) -> &Plant
-        ensures { result.now ≡ self.now.hooks.plant }
+        ensures { result.now ≡ self.now.hooks.network }
     {
         self.hooks.checked().plant()
     }
@@ -72,7 +73,7 @@ impl Setup {
         ensures index { option_map (λ input. input.now.index) result
             ≡ input_interface (setup_in self.now.hooks) link_interface }
         ensures known { IfSome result (λ input.
-            input.now ≡ interface_facts self.now.hooks.plant input.now.index) }
+            input.now ≡ interface_facts self.now.hooks.network input.now.index) }
     {
         match link_interface {
             Some(index) => find_interface(&self.interfaces, index),
@@ -84,7 +85,7 @@ impl Setup {
     #[inline(always)]
     #[tactic(auto, using(crate::proofs::FoundInterfaces::found))]
     pub fn set_output(&self, index: u32, output: &mut Option<Interface>)
-        ensures { output.new ≡ Some (interface_facts self.now.hooks.plant index) }
+        ensures { output.new ≡ Some (interface_facts self.now.hooks.network index) }
     {
         match find_interface(&self.interfaces, index) {
             Some(interface) => *output = Some(*interface),

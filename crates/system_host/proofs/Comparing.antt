@@ -19,7 +19,7 @@ use Rattle.system_host.specs.steps.Comparisons.{AreAccepted, IsRefused, fault_in
 
 abbrev pub accepted_by : (rules box : Text) (checked : CheckedTree) → IsChecked rules box checked → Accepted rules box
 accepted_by rules box checked is = record {
-  setup = record { rules = checked.rules; plant = checked.plant };
+  setup = record { rules = checked.rules; network = checked.network };
   spelled = is.spelled;
   read = is.read;
   well_formed = is.well_formed;
@@ -27,32 +27,32 @@ accepted_by rules box checked is = record {
 
 module _ (i : DiffInputs) where
   -- OLD is judged first
-  pub old_refused : (cause : RunFault) → JudgeRefuses i.old.now i.plant.now cause → IsRefused i (fault_in Old cause)
+  pub old_refused : (cause : RunFault) → JudgeRefuses i.old.now i.network.now cause → IsRefused i (fault_in Old cause)
   old_refused (Rules fault) is = is
   old_refused (Box fault) is = is
   old_refused (Capture fault) is = absurd is
   old_refused Device is = absurd is
   old_refused Memory is = tt
 
-  module _ (old : Accepted i.old.now i.plant.now) where
+  module _ (old : Accepted i.old.now i.network.now) where
     -- the box file was accepted with OLD
-    pub new_refused : (cause : RunFault) → JudgeRefuses i.new.now i.plant.now cause → IsRefused i (fault_in New cause)
+    pub new_refused : (cause : RunFault) → JudgeRefuses i.new.now i.network.now cause → IsRefused i (fault_in New cause)
     new_refused (Rules fault) is = (old, is)
-    new_refused (Box fault) is = absurd (box_or_fault i.plant.now old.setup.plant fault old.read is.2)
+    new_refused (Box fault) is = absurd (box_or_fault i.network.now old.setup.network fault old.read is.2)
     new_refused (Capture fault) is = absurd is
     new_refused Device is = absurd is
     new_refused Memory is = tt
 
-    pub filter_refused : Accepted i.new.now i.plant.now → (filter : Text) → text_of i.assumed ≡ Some filter
-        → (cause : RunFault) → JudgeRefuses filter i.plant.now cause → IsRefused i (fault_in Filter cause)
+    pub filter_refused : Accepted i.new.now i.network.now → (filter : Text) → text_of i.assumed ≡ Some filter
+        → (cause : RunFault) → JudgeRefuses filter i.network.now cause → IsRefused i (fault_in Filter cause)
     filter_refused new filter e (Rules fault) is = (old, new, rw e is)
-    filter_refused new filter e (Box fault) is = absurd (box_or_fault i.plant.now old.setup.plant fault old.read is.2)
+    filter_refused new filter e (Box fault) is = absurd (box_or_fault i.network.now old.setup.network fault old.read is.2)
     filter_refused new filter e (Capture fault) is = absurd is
     filter_refused new filter e Device is = absurd is
     filter_refused new filter e Memory is = tt
 
-pub all_accepted : (i : DiffInputs) (filter : Option (Bor Text)) → i.assumed ≡ filter → Accepted i.old.now i.plant.now
-    → Accepted i.new.now i.plant.now → IfSome (text_of filter) (λ f. Accepted f i.plant.now) → AreAccepted i
+pub all_accepted : (i : DiffInputs) (filter : Option (Bor Text)) → i.assumed ≡ filter → Accepted i.old.now i.network.now
+    → Accepted i.new.now i.network.now → IfSome (text_of filter) (λ f. Accepted f i.network.now) → AreAccepted i
 all_accepted i filter e old new accepted = (old, new, rw e accepted)
 
 -- where all texts are accepted, any answer is to accepted texts, and any fault is that of the answer

@@ -19,13 +19,13 @@ pub(crate) const NODES: u32 = 1 << 23;
 pub(crate) fn analyze(
     alloc: Global,
     rules: &[u8],
-    plant: &[u8],
+    network: &[u8],
     sets: bool,
 ) -> Result<ReachReport, ReachFault>
-    ensures told { IfOk result (Tells rules.now plant.now sets) }
-    ensures refused { IfErr result (λ fault. Unanswered rules.now plant.now fault) }
+    ensures told { IfOk result (Tells rules.now network.now sets) }
+    ensures refused { IfErr result (λ fault. Unanswered rules.now network.now fault) }
 {
-    let checked = checked(alloc, rules, plant)?;
+    let checked = checked(alloc, rules, network)?;
     match report_of(alloc, rules, &checked, NODES, sets) {
         Ok(report) => Ok(report),
         Err(error) => Err(fault_of(error)),
@@ -33,13 +33,13 @@ pub(crate) fn analyze(
 }
 
 /// Reads both texts and checks the ruleset on the box.
-pub(crate) fn checked(alloc: Global, rules: &[u8], plant: &[u8]) -> Result<Checked, RunFault>
-    ensures fine { IfOk result (λ checked. IsChecked rules.now plant.now checked) }
-    ensures refused { IfErr result (λ fault. JudgeRefuses rules.now plant.now fault) }
+pub(crate) fn checked(alloc: Global, rules: &[u8], network: &[u8]) -> Result<Checked, RunFault>
+    ensures fine { IfOk result (λ checked. IsChecked rules.now network.now checked) }
+    ensures refused { IfErr result (λ fault. JudgeRefuses rules.now network.now fault) }
 {
     let ruleset = parse(alloc, rules)?;
-    let plant = Plant::read(alloc, plant)?;
-    Ok(check(alloc, ruleset, plant)?)
+    let network = Plant::read(alloc, network)?;
+    Ok(check(alloc, ruleset, network)?)
 }
 
 fn fault_of(error: ReachError) -> ReachFault

@@ -19,13 +19,13 @@ pub(crate) fn compare(alloc: Global, inputs: DiffInputs<'_>) -> Result<DiffRepor
     ensures told { IfOk result (λ _. AreAccepted inputs.entry) }
     ensures refused { IfErr result (λ fault. IsRefused inputs.entry fault) }
 {
-    let plant = inputs.plant;
-    let old = checked_in(alloc, RulesetRole::Old, inputs.old, plant)?;
-    let new = checked_in(alloc, RulesetRole::New, inputs.new, plant)?;
+    let network = inputs.network;
+    let old = checked_in(alloc, RulesetRole::Old, inputs.old, network)?;
+    let new = checked_in(alloc, RulesetRole::New, inputs.new, network)?;
     let Some(text) = inputs.assumed else {
         return tell(alloc, &old, &new, None);
     };
-    let filter = checked_in(alloc, RulesetRole::Filter, text, plant)?;
+    let filter = checked_in(alloc, RulesetRole::Filter, text, network)?;
     tell(alloc, &old, &new, Some(&filter))
 }
 
@@ -34,12 +34,12 @@ fn checked_in(
     alloc: Global,
     role: RulesetRole,
     rules: &[u8],
-    plant: &[u8],
+    network: &[u8],
 ) -> Result<Checked, DiffFault>
-    ensures fine { IfOk result (λ checked. IsChecked rules.now plant.now checked) }
-    ensures refused { IfErr result (λ fault. RefusedIn role rules.now plant.now fault) }
+    ensures fine { IfOk result (λ checked. IsChecked rules.now network.now checked) }
+    ensures refused { IfErr result (λ fault. RefusedIn role rules.now network.now fault) }
 {
-    match checked(alloc, rules, plant) {
+    match checked(alloc, rules, network) {
         Ok(checked) => Ok(checked),
         Err(fault) => Err(fault_in(role, fault)),
     }
@@ -52,8 +52,8 @@ fn tell(
     new: &Checked,
     filter: Option<&Checked>,
 ) -> Result<DiffReport, DiffFault>
-    requires same_box { new.now.plant ≡ old.now.plant }
-    requires assumed_box { IfSome filter (λ f. f.now.plant ≡ old.now.plant) }
+    requires same_box { new.now.network ≡ old.now.network }
+    requires assumed_box { IfSome filter (λ f. f.now.network ≡ old.now.network) }
     ensures { IfErr result (λ fault. (error : WalkError) × (fault ≡ comparisons.fault_of error)) }
 {
     match report_of(alloc, old, new, filter, NODES) {

@@ -59,19 +59,19 @@ fn source_paths<'a>(task: &Task<'a>, role: RulesetRole) -> Option<SourcePaths<'a
     match task {
         Task::Run(run) => Some(SourcePaths {
             rules: run.paths.rules,
-            plant: run.paths.plant,
+            network: run.paths.network,
         }),
         Task::Check(check) => Some(SourcePaths {
             rules: check.texts.rules,
-            plant: check.texts.plant,
+            network: check.texts.network,
         }),
         Task::Reach(reach) => Some(SourcePaths {
             rules: reach.texts.rules,
-            plant: reach.texts.plant,
+            network: reach.texts.network,
         }),
         Task::Diff(diff) => Some(SourcePaths {
             rules: path_of(diff, role),
-            plant: diff.paths.plant,
+            network: diff.paths.network,
         }),
         Task::Explain(_) => None,
     }
@@ -123,11 +123,11 @@ fn print_faults<R: Files + Eprint + AllocGlobal>(
     paths: SourcePaths<'_>,
 ) -> io::Result<()> {
     let rules = read_again(rt, paths.rules);
-    let plant = read_again(rt, paths.plant);
+    let network = read_again(rt, paths.network);
     let sources = Sources {
         paths,
         rules: &rules,
-        plant: &plant,
+        network: &network,
     };
     let lines = match fault {
         Some(fault) => explained(rt.alloc(), fault, sources)?,
@@ -185,11 +185,11 @@ fn print_remarks<R: Files + Eprint + RandomSource + AllocGlobal>(
     if !is_regular(rt, path) {
         return Ok(());
     }
-    let text = read_again(rt, paths.plant);
-    let Ok(plant) = Plant::read(rt.alloc(), &text) else {
+    let text = read_again(rt, paths.network);
+    let Ok(network) = Plant::read(rt.alloc(), &text) else {
         return Ok(());
     };
-    let lines = remarks(rt.alloc(), path, fs::open(rt, path)?, &plant)?;
+    let lines = remarks(rt.alloc(), path, fs::open(rt, path)?, &network)?;
     eprint!(rt; "{}", lines.as_str())?;
     // An empty text would be a ruleset, too.
     if !is_regular(rt, paths.rules) {
@@ -198,7 +198,7 @@ fn print_remarks<R: Files + Eprint + RandomSource + AllocGlobal>(
     let rules = fs::read(rt, paths.rules)?;
     let texts = Texts {
         rules: &rules,
-        plant: &text,
+        network: &text,
     };
     print_fullness(rt, path, texts)
 }

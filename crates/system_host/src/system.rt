@@ -223,8 +223,8 @@ impl<'a, R: Clock + Env + Files + Print + Eprint + RandomSource + AllocGlobal> H
         outcome
     }
 
-    fn judge(&mut self, rules: Vec<u8>, plant: &[u8]) -> Result<Counts, RunFault> {
-        let answer = engine::judge(self.rt.alloc(), &rules, plant);
+    fn judge(&mut self, rules: Vec<u8>, network: &[u8]) -> Result<Counts, RunFault> {
+        let answer = engine::judge(self.rt.alloc(), &rules, network);
         self.accepted = match &answer {
             Ok(_) => Some(rules),
             Err(_) => None,
@@ -241,9 +241,9 @@ impl<'a, R: Clock + Env + Files + Print + Eprint + RandomSource + AllocGlobal> H
         self.keep("standard output", answer)
     }
 
-    fn reach(&mut self, rules: Vec<u8>, plant: &[u8], sets: bool) -> Result<bool, ReachFault> {
+    fn reach(&mut self, rules: Vec<u8>, network: &[u8], sets: bool) -> Result<bool, ReachFault> {
         let rt = self.rt;
-        let found = analyze(rt.alloc(), &rules, plant, sets)?;
+        let found = analyze(rt.alloc(), &rules, network, sets)?;
         let answer = io::writer(rt).write_all(&found.lines);
         self.unmet = Some(found.unmet);
         self.keep("standard output", answer)?;

@@ -37,15 +37,15 @@ port_named kind (Some port) old = if has_ports kind then port else old
 -- the destination by a NAT statement: `redirect` goes to the first address of the input interface (nft(8),
 -- NAT STATEMENTS). The others keep the destination
 abbrev pub statement_destination : PlantTree → Facts → NewConnection → NatAction → Endpoint
-statement_destination plant f new_connection (nat_actions.Destination address port) = record {
+statement_destination network f new_connection (nat_actions.Destination address port) = record {
   address = address;
   port = port_named new_connection.tuple.kind port new_connection.tuple.destination.port;
 }
-statement_destination plant f new_connection (nat_actions.Redirect port) = record {
-  address = unwrap_or (first_address plant f.input.index) 0;
+statement_destination network f new_connection (nat_actions.Redirect port) = record {
+  address = unwrap_or (first_address network f.input.index) 0;
   port = port_named new_connection.tuple.kind port new_connection.tuple.destination.port;
 }
-statement_destination plant f new_connection _ = new_connection.tuple.destination
+statement_destination network f new_connection _ = new_connection.tuple.destination
 
 abbrev pub redirected_to : Endpoint → NewConnection → NewConnection
 redirected_to e new_connection = record new_connection {
@@ -77,32 +77,32 @@ to_internal new_connection (Some internal) = record new_connection {
 -- by the NAT statement that ended the nat chains, or without one by a live mapping
 abbrev pub with_destination_nat : PlantTree → List Mapping → Facts → NewConnection → HookVerdict
     → NewConnection
-with_destination_nat plant mappings f new_connection (Translated t) =
-    redirected_to (statement_destination plant f new_connection t) new_connection
-with_destination_nat plant mappings f new_connection Accepted =
+with_destination_nat network mappings f new_connection (Translated t) =
+    redirected_to (statement_destination network f new_connection t) new_connection
+with_destination_nat network mappings f new_connection Accepted =
     to_internal new_connection (internal_endpoint mappings new_connection)
-with_destination_nat plant mappings f new_connection Dropped = new_connection
+with_destination_nat network mappings f new_connection Dropped = new_connection
 
 -- NAT of a connection is decided once, for its first packet (nft(8), CHAINS)
 abbrev pub after_destination_nat : PlantTree → List Mapping → Facts → CtInfo → HookVerdict → CtInfo
-after_destination_nat plant mappings f (New new_connection) verdict =
-    New (with_destination_nat plant mappings f new_connection verdict)
-after_destination_nat plant mappings f info verdict = info
+after_destination_nat network mappings f (New new_connection) verdict =
+    New (with_destination_nat network mappings f new_connection verdict)
+after_destination_nat network mappings f info verdict = info
 
 -- ---- the source
 
 -- the external source by a NAT statement: `masquerade` takes the first address of the output interface
 -- (nft(8), NAT STATEMENTS). The others give none
 abbrev pub statement_source : PlantTree → Facts → NatAction → Option ExternalSource
-statement_source plant f (nat_actions.Source address ports) = Some (record {
+statement_source network f (nat_actions.Source address ports) = Some (record {
   address = address;
   ports = ports;
 })
-statement_source plant f (nat_actions.Masquerade ports) = Some (record {
-  address = unwrap_or (first_address plant (unwrap_or (option_map (λ i. i.index) f.output) 0)) 0;
+statement_source network f (nat_actions.Masquerade ports) = Some (record {
+  address = unwrap_or (first_address network (unwrap_or (option_map (λ i. i.index) f.output) 0)) 0;
   ports = ports;
 })
-statement_source plant f _ = None
+statement_source network f _ = None
 
 abbrev pub is_same_interface : ℕ → Option ℕ → Bool
 is_same_interface index None = false
@@ -112,16 +112,16 @@ is_same_interface index (Some other) = other == index
 -- the interface that owns the external address, the source is mapped there too, so that the reply comes
 -- back through the box
 abbrev pub hairpin : PlantTree → ℕ → Option Mapping → Option ExternalSource
-hairpin plant entered None = None
-hairpin plant entered (Some m) =
-    if is_same_interface entered (owner plant m.external.address) then None
+hairpin network entered None = None
+hairpin network entered (Some m) =
+    if is_same_interface entered (owner network m.external.address) then None
     else Some (record { address = m.external.address; ports = None })
 
 -- by the NAT statement that ended the nat chains, or without one by the mapping of the destination
 abbrev pub external_source : PlantTree → Facts → NewConnection → HookVerdict → Option ExternalSource
-external_source plant f new_connection (Translated t) = statement_source plant f t
-external_source plant f new_connection Accepted = hairpin plant f.input.index new_connection.dest
-external_source plant f new_connection Dropped = None
+external_source network f new_connection (Translated t) = statement_source network f t
+external_source network f new_connection Accepted = hairpin network f.input.index new_connection.dest
+external_source network f new_connection Dropped = None
 
 abbrev pub range_of : Option PortInterval → Option CandidateRange
 range_of None = None
@@ -149,7 +149,7 @@ with_source_nat mappings new_connection (Some x) =
     (source_of new_connection.tuple.kind new_connection.tuple.source x.address (range_of x.ports) mappings)
 
 abbrev pub after_source_nat : PlantTree → List Mapping → Facts → CtInfo → HookVerdict → Option CtInfo
-after_source_nat plant mappings f (New new_connection) verdict =
+after_source_nat network mappings f (New new_connection) verdict =
     option_map (λ after. New after) (with_source_nat mappings new_connection
-    (external_source plant f new_connection verdict))
-after_source_nat plant mappings f info verdict = Some info
+    (external_source network f new_connection verdict))
+after_source_nat network mappings f info verdict = Some info

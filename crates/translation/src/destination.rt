@@ -20,7 +20,7 @@ use rule_meaning::{Facts, HookVerdict, NatAction};
 /// packet's destination after NAT.
 #[inline(always)]
 pub fn apply_destination_nat(
-    plant: &Plant,
+    network: &Plant,
     mappings: &Mappings,
     verdict: HookVerdict,
     info: &mut CtInfo,
@@ -28,7 +28,7 @@ pub fn apply_destination_nat(
 )
     // For each list that represents the mappings held.
     ensures info { (held : List Mapped) → HoldsSame held mappings.now.held
-        → info.new ≡ after_destination_nat plant.now held facts.old info.old verdict }
+        → info.new ≡ after_destination_nat network.now held facts.old info.old verdict }
     ensures facts { facts.new ≡ facts_after_destination_nat info.new facts.old }
     ensures fits { (held : List Mapped) → HoldsSame held mappings.now.held → Fits info.old held
         → Fits info.new held }
@@ -36,14 +36,14 @@ pub fn apply_destination_nat(
     ensures same { untranslated info.new ≡ untranslated info.old }
 {
     if let CtInfo::New(new_connection) = info {
-        translate_destination(plant, mappings, facts, new_connection, verdict);
+        translate_destination(network, mappings, facts, new_connection, verdict);
     }
     update_destination(info, facts);
 }
 
 #[inline(always)]
 fn translate_destination(
-    plant: &Plant,
+    network: &Plant,
     mappings: &Mappings,
     facts: &Facts,
     new_connection: &mut NewConnection,
@@ -51,14 +51,14 @@ fn translate_destination(
 )
     ensures new_connection { (held : List Mapped) → HoldsSame held mappings.now.held
         → new_connection.new
-        ≡ with_destination_nat plant.now held facts.now new_connection.old verdict }
+        ≡ with_destination_nat network.now held facts.now new_connection.old verdict }
     ensures fits { (held : List Mapped) → HoldsSame held mappings.now.held
         → IsFitting new_connection.old held → IsFitting new_connection.new held }
     ensures same { new_connection.new.original ≡ new_connection.old.original }
 {
     match verdict {
         HookVerdict::Translated(translation) => {
-            let destination = statement_destination(plant, facts, new_connection, translation);
+            let destination = statement_destination(network, facts, new_connection, translation);
             new_connection.tuple.destination = destination;
         }
         HookVerdict::Accepted => to_internal(mappings, new_connection),
@@ -68,12 +68,12 @@ fn translate_destination(
 
 /// The destination by a NAT statement; a statement that doesn't translate destinations keeps it.
 fn statement_destination(
-    plant: &Plant,
+    network: &Plant,
     facts: &Facts,
     new_connection: &NewConnection,
     translation: NatAction,
 ) -> Endpoint
-    ensures { result ≡ statement_destination plant.now facts.now new_connection.now translation }
+    ensures { result ≡ statement_destination network.now facts.now new_connection.now translation }
 {
     let (kind, old) = (new_connection.tuple.kind, new_connection.tuple.destination);
     match translation {
@@ -82,7 +82,7 @@ fn statement_destination(
             port: port_named(kind, port, old.port),
         },
         NatAction::Redirect(port) => Endpoint {
-            address: plant.first_address(facts.input.index).unwrap_or(0),
+            address: network.first_address(facts.input.index).unwrap_or(0),
             port: port_named(kind, port, old.port),
         },
         NatAction::Source(_, _) | NatAction::Masquerade(_) => old,

@@ -19,28 +19,32 @@ pub struct ExternalSource {
 /// packet its destination.
 #[inline(always)]
 pub(crate) fn external_source(
-    plant: &Plant,
+    network: &Plant,
     facts: &Facts,
     new_connection: &NewConnection,
     verdict: HookVerdict,
 ) -> Option<ExternalSource>
-    ensures { result ≡ external_source plant.now facts.now new_connection.now verdict }
+    ensures { result ≡ external_source network.now facts.now new_connection.now verdict }
 {
     match verdict {
-        HookVerdict::Translated(translation) => statement_source(plant, facts, translation),
-        HookVerdict::Accepted => hairpin(plant, facts.input.index, new_connection.dest),
+        HookVerdict::Translated(translation) => statement_source(network, facts, translation),
+        HookVerdict::Accepted => hairpin(network, facts.input.index, new_connection.dest),
         HookVerdict::Dropped => None,
     }
 }
 
 /// The external source of a NAT statement that translates a source.
-fn statement_source(plant: &Plant, facts: &Facts, translation: NatAction) -> Option<ExternalSource>
-    ensures { result ≡ statement_source plant.now facts.now translation }
+fn statement_source(
+    network: &Plant,
+    facts: &Facts,
+    translation: NatAction,
+) -> Option<ExternalSource>
+    ensures { result ≡ statement_source network.now facts.now translation }
 {
     match translation {
         NatAction::Source(address, ports) => Some(ExternalSource { address, ports }),
         NatAction::Masquerade(ports) => Some(ExternalSource {
-            address: masquerade_address(plant, facts),
+            address: masquerade_address(network, facts),
             ports,
         }),
         NatAction::Destination(_, _) | NatAction::Redirect(_) => None,
@@ -48,25 +52,25 @@ fn statement_source(plant: &Plant, facts: &Facts, translation: NatAction) -> Opt
 }
 
 /// The first address of the output interface.
-fn masquerade_address(plant: &Plant, facts: &Facts) -> u32
-    ensures { statement_source plant.now facts.now (nat_actions.Masquerade None)
+fn masquerade_address(network: &Plant, facts: &Facts) -> u32
+    ensures { statement_source network.now facts.now (nat_actions.Masquerade None)
         ≡ Some (record { address = result; ports = None }) }
 {
     let index = match facts.output {
         Some(output) => output.index,
         None => 0,
     };
-    plant.first_address(index).unwrap_or(0)
+    network.first_address(index).unwrap_or(0)
 }
 
 /// Hairpinning (RFC 4787, REQ-9): where the destination came from a mapping, and the packet didn't
 /// enter by the interface that owns the external address, its source is mapped to that address too,
 /// so that the reply comes back through the box.
-fn hairpin(plant: &Plant, entered: u32, dest: Option<Mapping>) -> Option<ExternalSource>
-    ensures { result ≡ hairpin plant.now entered dest }
+fn hairpin(network: &Plant, entered: u32, dest: Option<Mapping>) -> Option<ExternalSource>
+    ensures { result ≡ hairpin network.now entered dest }
 {
     let address = dest?.external.address;
-    if is_same_interface(entered, plant.owner(address)) {
+    if is_same_interface(entered, network.owner(address)) {
         return None;
     }
     Some(ExternalSource {

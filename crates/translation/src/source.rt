@@ -25,7 +25,7 @@ use rule_meaning::{Facts, HookVerdict, PortInterval};
 /// No port is free. State and facts are unchanged.
 #[inline(always)]
 pub fn apply_source_nat(
-    plant: &Plant,
+    network: &Plant,
     mappings: &Mappings,
     verdict: HookVerdict,
     info: &mut CtInfo,
@@ -33,7 +33,7 @@ pub fn apply_source_nat(
 ) -> Result<(), MapError>
     // For each list that represents the mappings held.
     ensures info { (held : List Mapped) → HoldsSame held mappings.now.held
-        → after_source_nat plant.now held facts.old info.old verdict
+        → after_source_nat network.now held facts.old info.old verdict
         ≡ option_map (λ _. info.new) (result_ok result) }
     ensures facts { OnOk result (facts.new ≡ facts_after_source_nat info.new facts.old) }
     ensures fits { (held : List Mapped) → HoldsSame held mappings.now.held → Fits info.old held
@@ -43,7 +43,7 @@ pub fn apply_source_nat(
     ensures err { OnErr result ((info.new ≡ info.old) × (facts.new ≡ facts.old)) }
 {
     if let CtInfo::New(new_connection) = info {
-        let external_source = external_source(plant, facts, new_connection, verdict);
+        let external_source = external_source(network, facts, new_connection, verdict);
         translate_source(mappings, new_connection, external_source)?;
     }
     update_source(info, facts);

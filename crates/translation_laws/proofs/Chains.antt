@@ -160,17 +160,17 @@ module _ (input : Interface) (at_look_up : Option Bool) (Q : Option Interface �
   pub nothing_holds : HoldsThrough NoChain
   nothing_holds f es end is h = subst EndHeld (sym is) (h, tt)
 
-  module _ (plant : PlantTree) (tables : List TableTree) where
-    base_holds : (b : BaseChain) → HoldsThrough (RunsBaseChain plant tables b)
+  module _ (network : PlantTree) (tables : List TableTree) where
+    base_holds : (b : BaseChain) → HoldsThrough (RunsBaseChain network tables b)
     base_holds b f es end r h = subst EndHeld (sym r.is) (closed_held b.number (policy_of b.head) r.after
-        (runs_held (table_program plant b.number.table r.table)
-        (statement_held (record { plant = plant; table = r.table })) r.runs h))
+        (runs_held (table_program network b.number.table r.table)
+        (statement_held (record { network = network; table = r.table })) r.runs h))
 
-    in_turn_hold : (bs : List BaseChain) → HoldsThrough (InTurn plant tables bs)
+    in_turn_hold : (bs : List BaseChain) → HoldsThrough (InTurn network tables bs)
     in_turn_hold [] f es end r h = nothing_holds f es end r h
     in_turn_hold (b ∷ bs) f es end (hooks.goes_on m r on s) h =
         in_turn_hold bs m.facts m.events end s (base_holds b f es m r h).0
     in_turn_hold (b ∷ bs) f es end (hooks.stops r ends) h = base_holds b f es end r h
 
-    pub chains_hold : (test : BaseChain → Bool) → HoldsThrough (Chains plant tables test)
+    pub chains_hold : (test : BaseChain → Bool) → HoldsThrough (Chains network tables test)
     chains_hold test f es end r = in_turn_hold r.order f es end r.run

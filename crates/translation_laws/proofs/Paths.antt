@@ -60,14 +60,14 @@ module _ (setup : Setup) (input : Interface) (at_look_up : Option Bool) (Q : Pro
     where
       by_verdict : (v : HookVerdict) → IfContinues (IsAt input at_look_up Q) (unless_dropped v (after_chains x.end s))
       by_verdict Dropped = tt
-      by_verdict _ = (chains_hold input at_look_up (Q s.info) (grows s.info) setup.plant setup.rules (chains_in_stage stage)
+      by_verdict _ = (chains_hold input at_look_up (Q s.info) (grows s.info) setup.network setup.rules (chains_in_stage stage)
           s.facts s.events x.end x.ran p).0
 
 nat_chains_hold : (setup : Setup) (input : Interface) (at_look_up : Option Bool) (Q : Option Interface → List Event → Type 0)
     (grows : (output : Option Interface) (es later : List Event) → Q output es → Q output (es ++ later)) (stage : HookStage)
     (info : CtInfo) → HoldsThrough input at_look_up Q grows (NatChains setup stage info)
 nat_chains_hold setup input at_look_up Q grows stage (New new_connection) =
-    chains_hold input at_look_up Q grows setup.plant setup.rules (chains_in_stage stage)
+    chains_hold input at_look_up Q grows setup.network setup.rules (chains_in_stage stage)
 nat_chains_hold setup input at_look_up Q grows stage _ = nothing_holds input at_look_up Q grows
 
 -- a packet that chains of type nat don't drop
@@ -108,14 +108,14 @@ pub record IsAsked (setup : Setup) (input : Interface) (info : CtInfo) (asked : 
 -- of a packet that came by this interface
 module _ (setup : Setup) (mappings : List Mapping) (input : Interface) where
   abbrev pub turned_by : NewConnection → HookResult → NewConnection
-  turned_by d asked = with_destination_nat setup.plant mappings asked.facts d asked.verdict
+  turned_by d asked = with_destination_nat setup.network mappings asked.facts d asked.verdict
 
   -- the external source of a new connection behind destination NAT; none where the packet is for the box
   pub data HasSource (turned : NewConnection) (x : Option ExternalSource) (s : PathState) : Type 0 where
     delivered : s.facts.output ≡ None → x ≡ None → HasSource turned x s
     forwarded_on : (asked : HookResult) → IsAsked setup input (New turned) asked → (later : List Event)
         → s.events ≡ asked.events ++ later
-        → external_source setup.plant asked.facts turned asked.verdict ≡ x → HasSource turned x s
+        → external_source setup.network asked.facts turned asked.verdict ≡ x → HasSource turned x s
 
   -- a new connection behind destination and source NAT; without a NAT statement the chains of type nat accepted the packet
   pub record IsTranslated (d : NewConnection) (s : PathState) : Type 0 where
@@ -129,13 +129,13 @@ module _ (setup : Setup) (mappings : List Mapping) (input : Interface) where
 
   -- the state behind destination NAT, by the result of its chains
   abbrev behind : CtInfo → HookResult → CtInfo
-  behind info asked = after_destination_nat setup.plant mappings asked.facts info asked.verdict
+  behind info asked = after_destination_nat setup.network mappings asked.facts info asked.verdict
 
   -- and behind source NAT, which a packet for the box doesn't pass
   data Leaves (turned info : CtInfo) (output : Option Interface) (es : List Event) : Type 0 where
     kept_for_box : output ≡ None → info ≡ turned → Leaves turned info output es
     sent : (asked : HookResult) → IsAsked setup input turned asked → (later : List Event) → es ≡ asked.events ++ later
-        → after_source_nat setup.plant mappings asked.facts turned asked.verdict ≡ Some info → Leaves turned info output es
+        → after_source_nat setup.network mappings asked.facts turned asked.verdict ≡ Some info → Leaves turned info output es
 
   -- what is true where the hooks begin, between destination and source NAT, and after both, where a `notrack` took effect
   -- before the look-up, or not, as its facts tell
@@ -189,7 +189,7 @@ module _ (setup : Setup) (mappings : List Mapping) (input : Interface) where
         (λ output es later accepted none. accepted (none_earlier es later none)) stages.PostroutingNat turned s.facts s.events
         x.end x.ran (record { entered = h.entered; told = h.told; so = h.so.1 }) in
         subst (IfContinues (At AfterNat)) (sym x.is)
-        (unless_source_drops (At AfterNat) x.end.verdict (after_source_nat setup.plant mappings x.end.facts turned x.end.verdict)
+        (unless_source_drops (At AfterNat) x.end.verdict (after_source_nat setup.network mappings x.end.facts turned x.end.verdict)
         (after_chains x.end (record s { info = turned })) (λ on left e. record {
           entered = k.0.entered;
           told = after_nat_tells left x.end.facts.ct (Some exempt) (did_exempt x.end.events) k.0.told;
@@ -242,7 +242,7 @@ module _ (setup : Setup) (mappings : List Mapping) (input : Interface) where
     }
     | sent asked q later among is ↦
         let turned = turned_by d n.so.0 in
-        let external = external_source setup.plant asked.facts turned asked.verdict in
+        let external = external_source setup.network asked.facts turned asked.verdict in
         let left = some_of_map (λ (x : NewConnection). New x) (with_source_nat mappings turned external) s.info is in
         record {
           asked = n.so.0;
@@ -298,7 +298,7 @@ pub data IsLookedUp (setup : Setup) (held : List ConntrackEntry) (a : ReceivedPa
   refreshes : (place : ConnectionRef) → b ≡ Found place → s.info ≡ Tracked (tracked_connection place)
       → IsLookedUp setup held a b t s
   begins : IsNone b → may_begin t.kind ≡ true
-      → (n : IsTranslated setup (mappings_in (after_end b held)) (interface_facts setup.plant a.interface) (new_connection_of t) s)
+      → (n : IsTranslated setup (mappings_in (after_end b held)) (interface_facts setup.network a.interface) (new_connection_of t) s)
       → refusal (reply_to n.left) (after_end b held) ≡ None → IsLookedUp setup held a b t s
   is_invalid : IsNone b → (may_begin t.kind ≡ true → ⊥) → s.info ≡ Invalid → IsLookedUp setup held a b t s
 
@@ -328,7 +328,7 @@ module _ (setup : Setup) (held : List ConntrackEntry) (now : ℕ) where
 
   module _ (a : ReceivedPacket) where
     abbrev input : Interface
-    input = interface_facts setup.plant a.interface
+    input = interface_facts setup.network a.interface
 
     abbrev p : List ℕ
     p = a.packet

@@ -238,7 +238,7 @@ Hairpins setup history r e =
     (a : ReceivedPacket) (t : Tuple) → ComesWith setup r e a t → has_ports t.kind ≡ true
     → (m : Mapping) → Contains (mappings_before setup history r t (flags_in (transport_of a.packet))) m
     → m.kind ≡ t.kind → m.external ≡ t.destination
-    → is_same_interface a.interface (owner setup.plant m.external.address) ≡ false
+    → is_same_interface a.interface (owner setup.network m.external.address) ≡ false
     → IsTrue (is_creation e.tracked.change) → list_any did_translate e.events ≡ false
     → (interface : ℕ) → e.outcome ≡ Passed interface
     → IsHairpinned t m (mappings_before setup history r t (flags_in (transport_of a.packet))) e
@@ -255,7 +255,7 @@ names_ports _ = false
 pub record EndsSourceNat (setup : Setup) (e : Entry) (end : HookResult) : Type 0 where
   pub facts : Facts
   pub before : List Event
-  pub ran : Stage PostroutingNat setup.plant setup.rules facts before end
+  pub ran : Stage PostroutingNat setup.network setup.rules facts before end
   pub later : List Event
   pub among : e.events ≡ end.events ++ later
 

@@ -1,7 +1,7 @@
 -- The representation of a `Plant`.
 use Rattle.std.specs.Prelude.{◌≡◌, false, List, map, ℕ}
 use Rattle.std.specs.List.{AllByRecursion}
-use Rattle.box_file.specs.declared.plant.Interface as kept
+use Rattle.box_file.specs.declared.network.Interface as kept
 use Rattle.set_intervals.specs.declared.range.Range.{Range}
 use Rattle.box_file.specs.declared.routes.Route.{Route}
 use Rattle.box_file.specs.declared.limits.Limits.{Limits}

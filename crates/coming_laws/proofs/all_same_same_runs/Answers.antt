@@ -12,8 +12,8 @@ use Rattle.coming_laws.specs.AllSame.{AllSame}
 use Rattle.coming_laws.proofs.all_same_same_runs.Goals as goal
 
 same_stages : (setup : Setup) (new : List TableTree)
-    → ((stage : HookStage) (f : Facts) → ComesTo setup stage f → IsOfBox (interfaces_of setup.plant) f × (can_come_to stage f ≡ true))
-    → AllSame setup.plant setup.rules new → SameStages setup new
+    → ((stage : HookStage) (f : Facts) → ComesTo setup stage f → IsOfBox (interfaces_of setup.network) f × (can_come_to stage f ≡ true))
+    → AllSame setup.network setup.rules new → SameStages setup new
 same_stages setup new come same stage f x = same stage f (come stage f x).0 (come stage f x).1
 
 pub returns-clause-stages : goal.returns-clause-stages

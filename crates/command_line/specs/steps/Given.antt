@@ -27,21 +27,21 @@ GivesTask name f (Run task) =
     (bytes_eq name (codes "check") ≡ false) × (bytes_eq name (codes "reach") ≡ false) × (bytes_eq name (codes "diff") ≡ false)
     × (bytes_eq name (codes "explain") ≡ false) × Sets f (codes "trace") task.trace × GivesExplaining f (Some task.explaining)
     × (name_of_file task.report ≡ first_value f report_name)
-    × (task.paths.rules.now ≡ value_at f (codes "rules")) × (task.paths.plant.now ≡ value_at f (codes "plant"))
+    × (task.paths.rules.now ≡ value_at f (codes "rules")) × (task.paths.network.now ≡ value_at f (codes "network"))
     × (task.paths.input.now ≡ value_at f (codes "input")) × (task.paths.output.now ≡ value_at f (codes "output"))
 GivesTask name f (Check task) =
     (bytes_eq name (codes "check") ≡ true) × Sets f (codes "all") task.all × Sets f (codes "nft") task.nft
     × GivesExplaining f (Some task.explaining)
-    × (task.texts.rules.now ≡ value_at f (codes "rules")) × (task.texts.plant.now ≡ value_at f (codes "plant"))
+    × (task.texts.rules.now ≡ value_at f (codes "rules")) × (task.texts.network.now ≡ value_at f (codes "network"))
 GivesTask name f (Reach task) =
     (bytes_eq name (codes "check") ≡ false) × (bytes_eq name (codes "reach") ≡ true) × Sets f (codes "sets") task.sets
     × GivesExplaining f (Some task.explaining)
-    × (task.texts.rules.now ≡ value_at f (codes "rules")) × (task.texts.plant.now ≡ value_at f (codes "plant"))
+    × (task.texts.rules.now ≡ value_at f (codes "rules")) × (task.texts.network.now ≡ value_at f (codes "network"))
 GivesTask name f (Diff task) =
     (bytes_eq name (codes "check") ≡ false) × (bytes_eq name (codes "reach") ≡ false) × (bytes_eq name (codes "diff") ≡ true)
     × GivesExplaining f (Some task.explaining) × (name_of_file task.assumed ≡ first_value f assume_name)
     × (task.paths.old.now ≡ value_at f (codes "old")) × (task.paths.new.now ≡ value_at f (codes "new"))
-    × (task.paths.plant.now ≡ value_at f (codes "plant"))
+    × (task.paths.network.now ≡ value_at f (codes "network"))
 GivesTask name f (Explain code) =
     (bytes_eq name (codes "check") ≡ false) × (bytes_eq name (codes "reach") ≡ false) × (bytes_eq name (codes "diff") ≡ false)
     × (bytes_eq name (codes "explain") ≡ true) × (code.now ≡ value_at f (codes "code"))

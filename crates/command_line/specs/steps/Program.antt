@@ -27,14 +27,14 @@ top_app = record (new_app (codes "nftrun")) {
 }
 
 abbrev pub program_app : App
-program_app = fold with_subcommand top_app (shape_with (codes "run") (path_rule (codes "rules") ∷ path_rule (codes "plant")
+program_app = fold with_subcommand top_app (shape_with (codes "run") (path_rule (codes "rules") ∷ path_rule (codes "network")
     ∷ path_rule (codes "input") ∷ path_rule (codes "output") ∷ flag_rule (codes "trace") ∷ flag_rule (codes "explain")
     ∷ flag_rule (codes "no-explain") ∷ file_rule (codes "report") ∷ [])
-    ∷ shape_with (codes "check") (path_rule (codes "rules") ∷ path_rule (codes "plant") ∷ flag_rule (codes "all")
+    ∷ shape_with (codes "check") (path_rule (codes "rules") ∷ path_rule (codes "network") ∷ flag_rule (codes "all")
     ∷ flag_rule (codes "explain") ∷ flag_rule (codes "no-explain") ∷ flag_rule (codes "nft") ∷ [])
-    ∷ shape_with (codes "reach") (path_rule (codes "rules") ∷ path_rule (codes "plant") ∷ flag_rule (codes "sets")
+    ∷ shape_with (codes "reach") (path_rule (codes "rules") ∷ path_rule (codes "network") ∷ flag_rule (codes "sets")
     ∷ flag_rule (codes "explain") ∷ flag_rule (codes "no-explain") ∷ [])
-    ∷ shape_with (codes "diff") (path_rule (codes "old") ∷ path_rule (codes "new") ∷ path_rule (codes "plant")
+    ∷ shape_with (codes "diff") (path_rule (codes "old") ∷ path_rule (codes "new") ∷ path_rule (codes "network")
     ∷ flag_rule (codes "explain") ∷ flag_rule (codes "no-explain") ∷ file_rule (codes "assume") ∷ [])
     ∷ shape_with (codes "explain") (path_rule (codes "code") ∷ []) ∷ [])
 

@@ -61,7 +61,7 @@ pub record AreOrdered (bases : List CompiledChain) (code : Code) : Type 0 where
 
 -- the code of each table, and the starts of each hook
 pub record IsRulesetCode (checked : CheckedTree) (code : Code) : Type 0 where
-  pub tables : AreTableCodes checked.plant checked.rules code.tables.items
+  pub tables : AreTableCodes checked.network checked.rules code.tables.items
   pub bases : List CompiledChain
   pub are : (price : ChainNo → ℕ) → Prices checked.rules price → map costed bases ≡ map (priced price) (base_chains_of checked.rules)
   pub ordered : AreOrdered bases code

@@ -21,10 +21,10 @@ pub record Laws : Type 0 where
   pub one_fault : (text : List ℕ) (first second : TextFault) → HasTextFault text first
       → HasTextFault text second → first ≡ second
   -- nor has a ruleset on a box more than one least fault
-  pub one_check : (tables : List TableTree) (plant : PlantTree) (fault other : CheckFault)
-      → LeastFault fault tables plant → LeastFault other tables plant → fault ≡ other
+  pub one_check : (tables : List TableTree) (network : PlantTree) (fault other : CheckFault)
+      → LeastFault fault tables network → LeastFault other tables network → fault ≡ other
   -- and alike for boxes
-  pub plant : (text : List ℕ) (p q : PlantTree) → IsBox text p → IsBox text q → p ≡ q
+  pub network : (text : List ℕ) (p q : PlantTree) → IsBox text p → IsBox text q → p ≡ q
   pub sound_box : (text : List ℕ) (p : PlantTree) (fault : BoxFault) → IsBox text p → HasBoxFault text fault
       → ⊥
   pub one_box_fault : (text : List ℕ) (fault other : BoxFault) → HasBoxFault text fault
@@ -36,5 +36,5 @@ pub record Laws : Type 0 where
 -- the texts spell the checked ruleset and box
 pub record IsChecked (rules box : List ℕ) (checked : CheckedTree) : Type 0 where
   pub spelled : Spells checked.rules rules
-  pub read : IsBox box checked.plant
-  pub well_formed : WellFormed checked.rules checked.plant
+  pub read : IsBox box checked.network
+  pub well_formed : WellFormed checked.rules checked.network

@@ -96,7 +96,7 @@ pub record ReplayRepresents (replay : Replay) (start : ReplayStart) (history : L
   pub represents : Represents replay.engine history
   pub gets : AppendsBuffered [] start.sent w replay.sink.buffered (capture_text history)
   pub lines : List ℕ
-  pub reports : IsReportOf replay.numbers start.setup.rules start.trace history lines
+  pub reports : IsReportOf replay.report start.setup.rules start.trace history lines
   pub appends_report : Appends start.report r lines
   pub not_ahead : IsNotAhead start.setup.rules start.trace history start.sent w start.report r
 
@@ -202,7 +202,7 @@ pub record Replayed (replay : Replay) (input : ReplayInput) (ending : Ending) (u
   pub records : List Captured
   pub history : List Entry
   pub follows : BeginsWithRecords input records (ahead ++ left) history
-  pub noted : replay.numbers.records ≡ length records
+  pub noted : replay.report.records ≡ length records
   pub few : length ahead ≤ READ_AHEAD
   pub ends : Ends input.format ending (length records) (ahead ++ left)
   pub replay_represents : ReplayRepresents replay (start_of input) history w r

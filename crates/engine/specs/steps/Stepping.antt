@@ -7,7 +7,7 @@ use Rattle.engine.specs.steps.Replayed.{RepresentsSome}
 pub record GoesOn (replay : Replay) : Type 0 where
   pub represents : RepresentsSome replay.engine
   pub processed : replay.engine.records ≤ replay.records.count
-  pub noted : replay.numbers.records ≤ replay.records.count
+  pub noted : replay.report.records ≤ replay.records.count
   pub going : replay.records.fault ≡ None
 
 abbrev pub IsGoingOn : Replay → Bool → Type 0

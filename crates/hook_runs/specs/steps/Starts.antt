@@ -20,6 +20,7 @@ use Rattle.rule_meaning.specs.declared.stage.HookStage.{HookStage}
 use Rattle.rule_meaning.specs.declared.stage.HookStage.TheVariants as stages
 use Rattle.hook_runs.specs.declared.stages.StagedChains.{StagedChains}
 use Rattle.hook_runs.specs.StageCode.{AreStarts, continues}
+use Rattle.filter_vm.specs.declared.events.TheConstants.{MOST_EVENTS}
 
 -- ---- the starts of a stage
 
@@ -130,7 +131,7 @@ costs_of p = record {
 abbrev pub costed_tree : CheckedTree → Code → StagedChains → CostedTree
 costed_tree checked code p = record {
   rules = checked.rules;
-  plant = checked.plant;
+  network = checked.network;
   code = code;
   starts = starts_in p;
   costs = costs_of p;
@@ -141,4 +142,4 @@ costed_tree checked code p = record {
 -- each stage has its base chains, and all together cost at most the limit
 pub record IsCompiled (checked : CheckedTree) (code : Code) (p : StagedChains) : Type 0 where
   pub starts : (stage : HookStage) → AreStarts checked code (chains_in_stage stage) (staged_starts p stage)
-  pub few : total_stage_cost (costed_tree checked code p) ≤ 65536
+  pub few : total_stage_cost (costed_tree checked code p) ≤ MOST_EVENTS

@@ -21,5 +21,5 @@ statements_at t r =
 
 -- the set has the packets that meet the rule's last statement by the facts that their bits write
 abbrev pub MeansAlone : PlantTree → List TableTree → DiagramsView → RuleNo → PacketSet → Type 0
-MeansAlone plant tables d r set = Means d set
-    (λ packet. meets_alone (program_at plant tables r.table) r (facts_of (interfaces_of plant) NOTHING packet))
+MeansAlone network tables d r set = Means d set
+    (λ packet. meets_alone (program_at network tables r.table) r (facts_of (interfaces_of network) NOTHING packet))

@@ -13,9 +13,9 @@ abbrev pub unreached : RuleNo → RuleReach
 unreached r = record { rule = r; answer = NotReached }
 
 -- what is told of packets that come to these base chains
-pub record IsReach (plant : PlantTree) (tables : List TableTree) (bases : List BaseChain) (reach : Reach)
+pub record IsReach (network : PlantTree) (tables : List TableTree) (bases : List BaseChain) (reach : Reach)
     : Type 0 where
   pub rules : map (λ r. r.rule) reach.rules.items ≡ rules_of tables
-  pub answers : All (λ r. IsAnswer plant tables bases r.rule r.answer) reach.rules.items
+  pub answers : All (λ r. IsAnswer network tables bases r.rule r.answer) reach.rules.items
   pub policies : map (λ p. p.chain) reach.policies.items ≡ map (λ b. b.number) bases
-  pub applies : All (IsPolicyReach plant tables bases) reach.policies.items
+  pub applies : All (IsPolicyReach network tables bases) reach.policies.items

@@ -8,6 +8,6 @@ use Rattle.rule_values.proofs.has_contradiction.Goals as goal
 
 pub returns : goal.returns
 returns c = told c.any_contradicts.result
-    (sym (any_flat (map_contradicts c.args.plant.now) maps_in (map table_tree c.deref.result.now))
-    ∙ ap (λ ts. list_any (has_contradiction c.args.plant.now) (map table_tree ts)) c.deref.ensures.value)
+    (sym (any_flat (map_contradicts c.args.network.now) maps_in (map table_tree c.deref.result.now))
+    ∙ ap (λ ts. list_any (has_contradiction c.args.network.now) (map table_tree ts)) c.deref.ensures.value)
     c.any_contradicts.ensures

@@ -14,8 +14,8 @@ use Rattle.rule_values.specs.Faults.{is_of_type, statement_out_of_range, priorit
 
 -- the value fails the check
 abbrev pub fails : ValueCheck → PlantTree → TypedRange → Bool
-fails value_checks.IsOfType plant r = not (is_of_type plant r)
-fails value_checks.IsOnBox plant r = not (is_range_on_box plant r.kind r.range)
+fails value_checks.IsOfType network r = not (is_of_type network r)
+fails value_checks.IsOnBox network r = not (is_range_on_box network r.kind r.range)
 
 abbrev pub typed_range : ComparedType → RangeTree → TypedRange
 typed_range k r = record { kind = k; range = r }

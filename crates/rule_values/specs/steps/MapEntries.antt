@@ -79,7 +79,7 @@ RepresentEach names (e ∷ es) (p ∷ ps) = RepresentsEntry names e p × Represe
 RepresentEach names _ _ = ⊥
 
 abbrev pub entries_of : PlantTree → TypedMap → List MapEntry
-entries_of plant m = filter_map (map_entry_of plant m) m.elements
+entries_of network m = filter_map (map_entry_of network m) m.elements
 
 -- the pairs represent the entries, for some list of names
 pub record RepresentsEntries (pairs : List (Range × ComparableData)) (entries : List MapEntry) : Type 0 where

@@ -12,12 +12,12 @@ use Rattle.ruleset_diff.specs.Differences.{Comes, IsAmong, IsDifference}
 -- a packet with these facts that comes to the stage has the same results there, or is in one of these differences
 abbrev pub IsCovered : PlantTree → (old new : List TableTree) → (Facts → Bool) → DiagramsView → List Difference
     → HookStage → Facts → Type 0
-IsCovered plant old new within d its stage f = Comes within plant stage f → SameAt plant old new stage f ⊎ IsAmong plant old new d its stage f
+IsCovered network old new within d its stage f = Comes within network stage f → SameAt network old new stage f ⊎ IsAmong network old new d its stage f
 
 -- all differences in the stage were added
-pub record AddsStage (plant : PlantTree) (old new : List TableTree) (within : Facts → Bool) (d : DiagramsView)
+pub record AddsStage (network : PlantTree) (old new : List TableTree) (within : Facts → Bool) (d : DiagramsView)
     (stage : HookStage) (before after : List Difference) : Type 0 where
   pub more : List Difference
   pub added : after ≡ before ++ more
-  pub are : All (IsDifference plant old new within d) more
-  pub all : (f : Facts) → IsCovered plant old new within d more stage f
+  pub are : All (IsDifference network old new within d) more
+  pub all : (f : Facts) → IsCovered network old new within d more stage f

@@ -13,5 +13,5 @@ returns-clause-outputs c = outputs_same
 
 pub returns-clause-itself : goal.returns-clause-itself
 returns-clause-itself c = λ setup stage f comes result other x y.
-    let same : result ≡ other = c.hook_result_unique.ensures.stages stage setup.plant setup.rules f [] result other x y in
+    let same : result ≡ other = c.hook_result_unique.ensures.stages stage setup.network setup.rules f [] result other x y in
     record { verdict = ap (λ (e : HookResult). e.verdict) same; facts = λ on. ap (λ (e : HookResult). e.facts) same }

@@ -30,13 +30,13 @@ same_ok result format other is so = cc
 -- ---- on one box
 
 abbrev OneBox : Type 0
-OneBox = (text : List ℕ) (plant other : PlantTree) → IsBox text plant → IsBox text other → plant ≡ other
+OneBox = (text : List ℕ) (network other : PlantTree) → IsBox text network → IsBox text other → network ≡ other
 
 same_box : OneBox → {old new box : List ℕ} (a : Accepted old box) (b : Accepted new box)
     → b.setup ≡ with_rules b.setup.rules a.setup
 same_box one {box = box} a b = λ i. record {
   rules = b.setup.rules;
-  plant = one box b.setup.plant a.setup.plant b.read a.read i;
+  network = one box b.setup.network a.setup.network b.read a.read i;
 }
 
 same_records : OneBox → {old new box : List ℕ} (a : Accepted old box) (b : Accepted new box) → SameStages a.setup b.setup.rules
@@ -50,10 +50,10 @@ same_records one a b same records others bytes alike history other x y =
 -- ---- a history exists
 
 abbrev SomeEntry : Type 0
-SomeEntry = (setup : Setup) (history : List Entry) (r : Recorded) → WellFormed setup.rules setup.plant → (e : Entry)
+SomeEntry = (setup : Setup) (history : List Entry) (r : Recorded) → WellFormed setup.rules setup.network → (e : Entry)
     × Next setup history r e
 
-some_history : SomeEntry → (setup : Setup) → WellFormed setup.rules setup.plant
+some_history : SomeEntry → (setup : Setup) → WellFormed setup.rules setup.network
     → (before : List Entry) (rs : List Recorded) → (after : List Entry) × IsHistoryOf setup before rs after
 some_history some setup fine before [] = (before, refl)
 some_history some setup fine before (r ∷ rs) =

@@ -17,8 +17,8 @@ use Rattle.stage_sets.specs.Ends.{end_with}
 
 -- the end of a packet's way through a base chain of this table
 abbrev pub end_in : PlantTree → TableTree → BaseChain → Facts → StageEnd
-end_in plant names b f =
-    by_policy (policy_of b.head) (way (table_program plant b.number.table names) LEVELS b.number.chain f).end
+end_in network names b f =
+    by_policy (policy_of b.head) (way (table_program network b.number.table names) LEVELS b.number.chain f).end
 
 -- with one more base chain, where `end` is the end of a packet's way through it, these outcomes become those
 pub record Advances (interfaces : List Interface) (end : Facts → StageEnd) (old new : DiagramsView)

@@ -6,7 +6,7 @@ use Rattle.stepping.specs.Carried.{interface_facts}
 
 -- one for each `interface` line, in text order
 abbrev pub interfaces_of : PlantTree → List Interface
-interfaces_of plant = map (interface_facts plant) (map (λ i. i.index) plant.interfaces)
+interfaces_of network = map (interface_facts network) (map (λ i. i.index) network.interfaces)
 
 abbrev pub is_at : ℕ → Interface → Bool
 is_at index i = i.index == index

@@ -25,6 +25,7 @@ use Rattle.stepping.specs.Confirmations.{confirmation_of}
 use Rattle.pcap_io.specs.Pcap.{Recorded}
 use Rattle.stepping.specs.Next.{Next, Path, arrival_of, final_state, outcome_of, sent_on, tracked_as, tuple_in}
 use Rattle.stepping.specs.Representing as represents
+use Rattle.filter_vm.specs.declared.events.TheConstants.{MOST_EVENTS}
 
 -- before the first record: time 0, no packet, no connections
 abbrev pub IsBeforeFirst : Option RecordResult → ℕ → List ℕ → List ConntrackEntry → Type 0
@@ -37,7 +38,7 @@ pub record IsReady (setup : Setup) (connections : Table) (ended : Option RecordR
   pub limited : connections.limits ≡ limits_of setup
   pub first : IsBeforeFirst ended latest packet connections.held
   pub early : latest < 4294967296000000000
-  pub few : length ran.events ≤ 65536
+  pub few : length ran.events ≤ MOST_EVENTS
   pub later : IsNoneLater latest connections.held
   pub room : IsTrue ready → IsTrue connections.has_room
 
@@ -83,7 +84,7 @@ pub record Follows (now : ℕ) (p : List ℕ) (r : StepResult) (begun : Bool) (o
 pub record HasProcessedPacket (setup : Setup) (a : ReceivedPacket) (now : ℕ) (old new : List ConntrackEntry)
     (ended : RecordResult) (events : List Event) (packet : List ℕ) : Type 0 where
   pub r : StepResult
-  pub path : Path setup old a.packet (on_arrival a.packet (interface_facts setup.plant a.interface)) r
+  pub path : Path setup old a.packet (on_arrival a.packet (interface_facts setup.network a.interface)) r
   pub follows : Follows now a.packet r ended.begun old new
   pub ends : ended.outcome ≡ outcome_of r
   pub long : ended.length ≡ total_len a.packet

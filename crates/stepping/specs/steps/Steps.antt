@@ -10,10 +10,11 @@ use Rattle.translation.specs.CtInfos.{untranslated}
 use Rattle.translation.specs.Fitting.{Fits}
 use Rattle.stepping.specs.declared.state.PacketState.{PacketState}
 use Rattle.stepping.specs.Paths.{PathState, StepResult, Continue, Drop, Step}
+use Rattle.filter_vm.specs.declared.events.TheConstants.{MOST_EVENTS}
 
 -- the configuration of compiled chains
 abbrev pub setup_in : CostedTree → Setup
-setup_in runs = record { rules = runs.rules; plant = runs.plant }
+setup_in runs = record { rules = runs.rules; network = runs.network }
 
 -- a packet with its events
 abbrev pub path_state : PacketState → EventsAndTicks → PathState
@@ -28,7 +29,7 @@ step_result (Err cause) s = Drop cause s
 
 -- room for this many more events is reserved
 abbrev pub HasRoom : EventsAndTicks → ℕ → Type 0
-HasRoom ran cost = length ran.events + cost ≤ 65536
+HasRoom ran cost = length ran.events + cost ≤ MOST_EVENTS
 
 -- at most this many events and statements
 pub record Spends (before after : EventsAndTicks) (cost : ℕ) : Type 0 where

@@ -18,13 +18,13 @@ use Rattle.reach_report.specs.Reports.{Reports}
 -- the texts spell the checked ruleset and box
 pub record IsChecked (rules box : Text) (checked : CheckedTree) : Type 0 where
   pub spelled : Spells checked.rules rules
-  pub read : IsBox box checked.plant
-  pub well_formed : WellFormed checked.rules checked.plant
+  pub read : IsBox box checked.network
+  pub well_formed : WellFormed checked.rules checked.network
 
 -- the texts are accepted, and this is told of the ruleset and the box that they spell
 pub record Tells (rules box : Text) (sets : Bool) (report : ReachReport) : Type 0 where
   pub accepted : Accepted rules box
-  pub tells : Reports accepted.setup.plant accepted.setup.rules sets report
+  pub tells : Reports accepted.setup.network accepted.setup.rules sets report
 
 abbrev pub fault_of : ReachError → ReachFault
 fault_of errors.TooLarge = TooLarge

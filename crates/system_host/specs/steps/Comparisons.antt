@@ -17,8 +17,8 @@ use Rattle.program.specs.declared.fault.DiffFault.TheVariants.{Rules, Fault, Too
 
 -- OLD, NEW and, where there is one, FILTER are accepted on the box
 abbrev pub AreAccepted : DiffInputs → Type 0
-AreAccepted i = Accepted i.old.now i.plant.now × Accepted i.new.now i.plant.now
-    × IfSome (text_of i.assumed) (λ filter. Accepted filter i.plant.now)
+AreAccepted i = Accepted i.old.now i.network.now × Accepted i.new.now i.network.now
+    × IfSome (text_of i.assumed) (λ filter. Accepted filter i.network.now)
 
 -- the fault of a ruleset of a comparison and the box, as of a check of both
 abbrev pub fault_in : RulesetRole → RunFault → DiffFault
@@ -36,11 +36,11 @@ fault_of errors.Memory = Fault faults.Memory
 -- why it isn't told what the rulesets do differently: the first of them that is faulty on the box, those before it
 -- being accepted; the box file; or a failed allocation. Or, where all are accepted, the answer is too large
 abbrev pub IsRefused : DiffInputs → DiffFault → Type 0
-IsRefused i (Rules Old fault) = IsFaulty i.old.now i.plant.now fault
-IsRefused i (Rules New fault) = Accepted i.old.now i.plant.now × IsFaulty i.new.now i.plant.now fault
-IsRefused i (Rules Filter fault) = Accepted i.old.now i.plant.now × Accepted i.new.now i.plant.now
-    × IfSome (text_of i.assumed) (λ filter. IsFaulty filter i.plant.now fault)
-IsRefused i (Fault (faults.Box fault)) = RefusesBox i.old.now i.plant.now fault
+IsRefused i (Rules Old fault) = IsFaulty i.old.now i.network.now fault
+IsRefused i (Rules New fault) = Accepted i.old.now i.network.now × IsFaulty i.new.now i.network.now fault
+IsRefused i (Rules Filter fault) = Accepted i.old.now i.network.now × Accepted i.new.now i.network.now
+    × IfSome (text_of i.assumed) (λ filter. IsFaulty filter i.network.now fault)
+IsRefused i (Fault (faults.Box fault)) = RefusesBox i.old.now i.network.now fault
 IsRefused i (Fault faults.Memory) = Unit {0}
 IsRefused i (Fault _) = ⊥
 IsRefused i TooLarge = AreAccepted i

@@ -27,7 +27,7 @@ abbrev pub IsGuaranteed : {I O : Type 0} → (I → Option (List ℕ)) → (O �
     → Call (Counted I) (Counted O) → Type 0
 IsGuaranteed remaining contents (run inputs before after answer) =
     Reported contents before.report after.report (λ report report'. UsesDevices inputs.rules.now
-    inputs.plant.now inputs.trace (device remaining before.input) (device remaining after.input)
+    inputs.network.now inputs.trace (device remaining before.input) (device remaining after.input)
     (device contents before.output) (device contents after.output) report report' answer)
 IsGuaranteed remaining contents (judge rules box (Ok counts)) = Judged rules box counts
 IsGuaranteed remaining contents (judge rules box (Err fault)) = JudgeRefuses rules box fault

@@ -14,7 +14,7 @@ use Rattle.chain_sets.proofs.turns.rule_turns.Goals as goal
 
 pub state_turns-requires-clause-declared : goal.state_turns-requires-clause-declared
 state_turns-requires-clause-declared c =
-    declared_kept c.args.table.setting.plant.now c.args.table.setting.names.now c.args.lookups.now c.loop-state.lookups c.loop-state.invariant.extends
+    declared_kept c.args.table.setting.network.now c.args.table.setting.names.now c.args.lookups.now c.loop-state.lookups c.loop-state.invariant.extends
     c.requires.declared
 
 pub state_turns-requires-clause-state : goal.state_turns-requires-clause-state
@@ -41,7 +41,7 @@ loop-state-preserved c =
     let i = c.loop-state.state-index in
     let all = c.args.states.now in
     let d0 = c.args.diagrams.now in
-    let p = table_program c.args.table.setting.plant.now c.args.rule.table c.args.table.setting.names.now in
+    let p = table_program c.args.table.setting.network.now c.args.rule.table c.args.table.setting.names.now in
     record {
       so_far = turns_more p c.args.rule.chain c.args.rule.rule (map statement c.args.stmts.now) c.args.table.interfaces.now d0 c.loop-state.diagrams
           c.state_turns.new.diagrams c.add_cases.new.diagrams (get_or all i any_state) (drop (i + 1) all) all c.loop-state.turns.items
@@ -60,7 +60,7 @@ loop-state-preserved c =
 
 pub returns-clause-turns : goal.returns-clause-turns
 returns-clause-turns c =
-    turns_all (table_program c.args.table.setting.plant.now c.args.rule.table c.args.table.setting.names.now) c.args.rule.chain c.args.rule.rule
+    turns_all (table_program c.args.table.setting.network.now c.args.rule.table c.args.table.setting.names.now) c.args.rule.chain c.args.rule.rule
     (map statement c.args.stmts.now) c.args.table.interfaces.now c.args.diagrams.now c.loop-state.diagrams
     (drop c.loop-state.state-index c.args.states.now) c.args.states.now c.loop-state.turns.items (sets_of c.args.visits.now) (sets_of c.loop-state.visits)
     (drop_all c.loop-state.state-index c.args.states.now (omega arith)) c.loop-state.invariant.so_far

@@ -9,7 +9,7 @@ use Rattle.chain_sets.proofs.turns.rule_turns.Given as goal
 
 abbrev pub invariant-loop-state : goal.invariant-loop-state
 invariant-loop-state l = record {
-  so_far : TurnsSoFar (table_program l.table.setting.plant.now l.rule.table l.table.setting.names.now) l.rule.chain l.rule.rule
+  so_far : TurnsSoFar (table_program l.table.setting.network.now l.rule.table l.table.setting.names.now) l.rule.chain l.rule.rule
       (map statement l.stmts) l.table.interfaces.now l.fn.diagrams l.diagrams (drop l.state-index l.states) l.states l.turns.items
       (sets_of l.fn.visits) (sets_of l.visits);
   packets : HavePackets l.diagrams l.turns.items;

@@ -37,7 +37,7 @@ returns-clause-keeps c =
 
 pub returns-clause-turns : goal.returns-clause-turns
 returns-clause-turns c =
-    state_goes (table_program c.args.table.setting.plant.now c.args.rule.table c.args.table.setting.names.now) c.args.rule.chain c.args.rule.rule
+    state_goes (table_program c.args.table.setting.network.now c.args.rule.table c.args.table.setting.names.now) c.args.rule.chain c.args.rule.rule
     (map statement c.args.stmts.now) c.args.diagrams.now c.rule_ends.new.diagrams c.met.new.diagrams c.add.new.diagrams
     (record { interfaces = c.args.table.interfaces; written = c.args.state.outcome }) c.args.state c.in_ok-met.met c.in_ok-ends.ends.items
     c.in_ok-turns_of.field-0.items (sets_of c.args.visits.now) (sets_of c.add.new.self) refl c.requires.state c.requires.visits

@@ -31,7 +31,7 @@ pass_rule-rule_exits-requires t c =
     let went = c.in_ok-turns.ensures.turns in (
       omega arith,
       (
-        declared_kept c.args.table.setting.plant.now c.args.table.setting.names.now c.args.lookups.now c.rule_turns.new.lookups
+        declared_kept c.args.table.setting.network.now c.args.table.setting.names.now c.args.lookups.now c.rule_turns.new.lookups
             c.in_ok-turns.ensures.extends c.requires.declared,
         (
           c.requires.types,
@@ -45,7 +45,7 @@ pass_rule-rule_exits-requires t c =
 
 pub pass_rule-returns-clause-value : goal.pass_rule-returns-clause-value
 pass_rule-returns-clause-value t c =
-    let plant = c.args.table.setting.plant.now in
+    let network = c.args.table.setting.network.now in
     let names = c.args.table.setting.names.now in
     let rule = c.args.rule in
     let ss = map statement c.args.stmts.now in
@@ -54,10 +54,10 @@ pass_rule-returns-clause-value t c =
     let before = sets_of c.args.visits.now in
     let middle = sets_of c.rule_turns.new.visits in
     let inside = c.args.table.interfaces.now in
-    let goes = subst (λ m. GoThrough (table_program plant m names) inside rule.chain rule.rule ss d0 d1 c.args.states.now c.deref.result.now before middle)
-    c.requires.here (subst (λ ts. GoThrough (table_program plant rule.table names) inside rule.chain rule.rule ss d0 d1 c.args.states.now ts before middle)
+    let goes = subst (λ m. GoThrough (table_program network m names) inside rule.chain rule.rule ss d0 d1 c.args.states.now c.deref.result.now before middle)
+    c.requires.here (subst (λ ts. GoThrough (table_program network rule.table names) inside rule.chain rule.rule ss d0 d1 c.args.states.now ts before middle)
     (sym c.deref.ensures.value) c.in_ok-turns.ensures.turns) in
-    IfOk-weaker c.rule_exits.result _ _ (λ exits leave. passes (table_program plant c.args.table.number names) inside c.args.levels rule.chain rule.rule ss
+    IfOk-weaker c.rule_exits.result _ _ (λ exits leave. passes (table_program network c.args.table.number names) inside c.args.levels rule.chain rule.rule ss
     d0 d1 c.rule_exits.new.diagrams c.args.states.now c.deref.result.now exits.items before middle (sets_of c.rule_exits.new.visits) goes leave)
     c.rule_exits.ensures.value
 
@@ -66,7 +66,7 @@ pass_rule-returns-in_err-turns-clause-too_deep t c = never _ c.from_residual.res
 
 pub pass_rule-returns-clause-too_deep : goal.pass_rule-returns-clause-too_deep
 pass_rule-returns-clause-too_deep t c =
-    let plant = c.args.table.setting.plant.now in
+    let network = c.args.table.setting.network.now in
     let names = c.args.table.setting.names.now in
     let rule = c.args.rule in
     let ss = map statement c.args.stmts.now in
@@ -76,11 +76,11 @@ pass_rule-returns-clause-too_deep t c =
     let middle = sets_of c.rule_turns.new.visits in
     let inside = c.args.table.interfaces.now in
     let turns = c.in_ok-turns.turns.items in
-    let goes = subst (λ m. GoThrough (table_program plant m names) inside rule.chain rule.rule ss d0 d1 c.args.states.now turns before middle)
+    let goes = subst (λ m. GoThrough (table_program network m names) inside rule.chain rule.rule ss d0 d1 c.args.states.now turns before middle)
     c.requires.here c.in_ok-turns.ensures.turns in
-    IfErr-weaker c.rule_exits.result _ _ (λ e why deep. rule_nests (table_program plant c.args.table.number names) inside c.args.levels rule.chain
+    IfErr-weaker c.rule_exits.result _ _ (λ e why deep. rule_nests (table_program network c.args.table.number names) inside c.args.levels rule.chain
     rule.rule ss d0 d1 c.args.states.now turns before middle goes c.in_ok-turns.ensures.packets
-    (subst (SomeTurnNests (table_program plant c.args.table.number names) c.args.levels) c.deref.ensures.value (why deep)))
+    (subst (SomeTurnNests (table_program network c.args.table.number names) c.args.levels) c.deref.ensures.value (why deep)))
     c.rule_exits.ensures.too_deep
 
 -- ---- turn after turn
@@ -90,7 +90,7 @@ rule_exits-turn_exits-requires t c =
     let inv = c.loop-turn.invariant in (
       omega arith,
       (
-        declared_kept c.args.table.setting.plant.now c.args.table.setting.names.now c.args.lookups.now c.loop-turn.lookups inv.extends
+        declared_kept c.args.table.setting.network.now c.args.table.setting.names.now c.args.lookups.now c.loop-turn.lookups inv.extends
             c.requires.declared,
         (
           c.requires.types,
@@ -125,7 +125,7 @@ rule_exits-loop-turn-preserved t c =
     let i = c.loop-turn.turn-index in
     let all = c.args.turns.now in
     let d0 = c.args.diagrams.now in
-    let p = table_program c.args.table.setting.plant.now c.args.table.number c.args.table.setting.names.now in
+    let p = table_program c.args.table.setting.network.now c.args.table.number c.args.table.setting.names.now in
     record {
       so_far = exits_more p c.args.table.interfaces.now c.args.levels d0 c.loop-turn.diagrams c.turn_exits.new.diagrams c.add_cases.new.diagrams
           (get_or all i any_turn) (drop (i + 1) all) all c.loop-turn.exits.items c.in_ok-more.more.items c.add_cases.new.cases.items
@@ -153,7 +153,7 @@ rule_exits-returns-in_err-add_cases-clause-too_deep t c = never _ c.from_residua
 
 pub turn_exits-returns-in_ok-behind-in-Through-clause-value : goal.turn_exits-returns-in_ok-behind-in-Through-clause-value
 turn_exits-returns-in_ok-behind-in-Through-clause-value t c =
-    leaves_through (table_program c.args.table.setting.plant.now c.args.table.number c.args.table.setting.names.now) c.args.table.interfaces.now
+    leaves_through (table_program c.args.table.setting.network.now c.args.table.number c.args.table.setting.names.now) c.args.table.interfaces.now
     c.in-Through.is_jump c.args.levels c.in-Through.chain c.args.diagrams.now c.walk_chain.new.diagrams c.args.turn c.in_ok-ends-in-Through.ends.items
     c.in_ok-behind-in-Through.field-0.items (sets_of c.args.visits.now) (sets_of c.walk_chain.new.visits)
     (record { rule = c.args.rule; exit = c.rule_exit.result; by_verdict = c.rule_exit.ensures; is = sym c.in-Through.is ∙ c.course_of.ensures })
@@ -161,7 +161,7 @@ turn_exits-returns-in_ok-behind-in-Through-clause-value t c =
 
 pub turn_exits-returns-in_err-ends-in-Through-clause-too_deep : goal.turn_exits-returns-in_err-ends-in-Through-clause-too_deep
 turn_exits-returns-in_err-ends-in-Through-clause-too_deep t c = passed_on c.from_residual-in_err-ends-in-Through.result _ (λ e same deep.
-    call_nests (table_program c.args.table.setting.plant.now c.args.table.number c.args.table.setting.names.now) c.args.levels c.in-Through.chain
+    call_nests (table_program c.args.table.setting.network.now c.args.table.number c.args.table.setting.names.now) c.args.levels c.in-Through.chain
     c.in-Through.is_jump c.args.turn.outcome (facts_of c.args.table.interfaces.now c.args.turn.outcome.written (λ n. false))
     (record { rule = c.args.rule; exit = c.rule_exit.result; by_verdict = c.rule_exit.ensures; is = sym c.in-Through.is ∙ c.course_of.ensures })
     (c.in_err-ends-in-Through.ensures.too_deep (sym same ∙ deep))) c.from_residual-in_err-ends-in-Through.ensures.1
@@ -181,7 +181,7 @@ walk_chain-pass_rule-requires t c =
     ap (list_any rule_out_of_range) c.rules_of-rules.ensures ∙ bounds-free names c.args.chain c.requires.bounds in (
       omega (arith, c.in-Some.ensures),
       (
-        declared_kept c.args.table.setting.plant.now names c.args.lookups.now c.loop-index.lookups inv.extends c.requires.declared,
+        declared_kept c.args.table.setting.network.now names c.args.lookups.now c.loop-index.lookups inv.extends c.requires.declared,
         (
           c.requires.types,
           (
@@ -237,7 +237,7 @@ walk_chain-returns-in_err-states-2-clause-keeps t c =
 
 pub walk_chain-loop-index-preserved : goal.walk_chain-loop-index-preserved
 walk_chain-loop-index-preserved t c =
-    let p = table_program c.args.table.setting.plant.now c.args.table.number c.args.table.setting.names.now in
+    let p = table_program c.args.table.setting.network.now c.args.table.number c.args.table.setting.names.now in
     let inside = c.args.table.interfaces.now in
     let deeper = c.in-Some.deeper in
     let rules = c.rules_of-rules.result.now in
@@ -284,7 +284,7 @@ walk_chain-returns-clause-keeps t c =
 
 pub walk_chain-returns-clause-value : goal.walk_chain-returns-clause-value
 walk_chain-returns-clause-value t c =
-    let plant = c.args.table.setting.plant.now in
+    let network = c.args.table.setting.network.now in
     let names = c.args.table.setting.names.now in
     let rules = c.rules_of-rules.result.now in
     let i = c.loop-index.index in
@@ -292,18 +292,18 @@ walk_chain-returns-clause-value t c =
     let level : c.in-Some.deeper + 1 ≡ c.args.levels = omega (arith, c.in-Some.ensures) in
     let long : length rs ≡ length rules = statements-long rule_tree rules in
     let past : length rs ≤ i = omega (arith, long, c.loop-index-test.false) in
-    rules_all (table_program plant c.args.table.number names) c.args.table.interfaces.now c.args.levels c.in-Some.deeper c.args.chain
+    rules_all (table_program network c.args.table.number names) c.args.table.interfaces.now c.args.levels c.in-Some.deeper c.args.chain
     c.args.diagrams.now c.loop-index.diagrams c.add_cases-2.new.diagrams rs i c.args.states.now c.loop-index.states.items c.loop-index.ends.items
     c.deref-3.result.now c.add_cases-2.new.cases.items (sets_of c.args.visits.now) (sets_of c.loop-index.visits) level
-    (ap statements_in c.rules_of-rules.ensures ∙ program-rules plant c.args.table.number names c.args.chain) (drop_all i rs past)
+    (ap statements_in c.rules_of-rules.ensures ∙ program-rules network c.args.table.number names c.args.chain) (drop_all i rs past)
     c.loop-index.invariant.so_far c.add_cases-2.ensures.keeps
     (c.deref-3.ensures.value ∙ c.in_ok-ended.ensures ∙ ap (map (with_outcome end_without)) c.deref-2.ensures.value) c.in_ok-add_cases-2.ensures.adds
 
 pub walk_chain-returns-in_err-exits-clause-too_deep : goal.walk_chain-returns-in_err-exits-clause-too_deep
 walk_chain-returns-in_err-exits-clause-too_deep t c = passed_on c.from_residual-in_err-exits.result _ (λ e same deep.
-    let plant = c.args.table.setting.plant.now in
+    let network = c.args.table.setting.network.now in
     let names = c.args.table.setting.names.now in
-    let p = table_program plant c.args.table.number names in
+    let p = table_program network c.args.table.number names in
     let rules = c.rules_of-rules.result.now in
     let rs = statements_in (map rule_tree rules) in
     let i = c.loop-index.index in
@@ -314,7 +314,7 @@ walk_chain-returns-in_err-exits-clause-too_deep t c = passed_on c.from_residual-
     let within : i < length rs = omega (arith, long, c.loop-index-test.true) in
     let level : c.in-Some.deeper + 1 ≡ c.args.levels = omega (arith, c.in-Some.ensures) in
     chain_nests p c.args.levels c.in-Some.deeper c.args.chain i number.rule rs ss level
-    (ap statements_in c.rules_of-rules.ensures ∙ program-rules plant c.args.table.number names c.args.chain) within
+    (ap statements_in c.rules_of-rules.ensures ∙ program-rules network c.args.table.number names c.args.chain) within
     (statements-at rule_tree rules i item ss c.loop-index-test.true ∙ ap (λ r. (rule_tree r).statements) (sym c.index-rules-index.is)
     ∙ ap (map statement) (sym c.deref.ensures.value))
     (ap (λ r. r.rule) c.in_ok-number.ensures)

@@ -21,14 +21,14 @@ decreases-walk_chain l = 4 * l.levels
 
 abbrev pub invariant-rule_exits-loop-turn : goal.invariant-rule_exits-loop-turn
 invariant-rule_exits-loop-turn l = record {
-  so_far : ExitsSoFar (table_program l.table.setting.plant.now l.table.number l.table.setting.names.now) l.table.interfaces.now l.levels
+  so_far : ExitsSoFar (table_program l.table.setting.network.now l.table.number l.table.setting.names.now) l.table.interfaces.now l.levels
       l.fn.diagrams l.diagrams (drop l.turn-index l.turns) l.turns l.exits.items (sets_of l.fn.visits) (sets_of l.visits);
   extends : Extends l.fn.lookups l.lookups;
 }
 
 abbrev pub invariant-walk_chain-loop-index : goal.invariant-walk_chain-loop-index
 invariant-walk_chain-loop-index l = record {
-  so_far : RulesSoFar (table_program l.table.setting.plant.now l.table.number l.table.setting.names.now) l.table.interfaces.now l.deeper l.chain
+  so_far : RulesSoFar (table_program l.table.setting.network.now l.table.number l.table.setting.names.now) l.table.interfaces.now l.deeper l.chain
       l.fn.diagrams l.diagrams (statements_in (map rule_tree l.rules)) l.index l.fn.states l.states.items l.ends.items
       (sets_of l.fn.visits) (sets_of l.visits);
   extends : Extends l.fn.lookups l.lookups;

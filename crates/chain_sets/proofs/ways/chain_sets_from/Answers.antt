@@ -9,6 +9,6 @@ walk_chain-requires-clause-visits c =
 
 pub returns-clause-value : goal.returns-clause-value
 returns-clause-value c = λ levels deep.
-    on_ways_from (table_program c.args.setting.plant.now c.args.chain.table c.args.setting.names.now) c.args.interfaces.now 256 c.args.chain.chain
+    on_ways_from (table_program c.args.setting.network.now c.args.chain.table c.args.setting.names.now) c.args.interfaces.now 256 c.args.chain.chain
     c.args.diagrams.now c.walk_chain.new.diagrams c.args.states.now c.in_ok-ends.ends.items (sets_of c.new-rules.result)
     (sets_of c.walk_chain.new.visits) c.new-rules.ensures c.ends.ensures.none c.in_ok-ends.ensures.value levels deep

@@ -38,7 +38,7 @@ returns c =
       };
       runs = λ hook start b is_start is_base same_head.
           let n = b.number.table in
-          agrees checked.plant checked.rules b code start (λ f es end r.
+          agrees checked.network checked.rules b code start (λ f es end r.
           let at = are.are n r.table r.stands in
           let its = at.has_costs in
           let coded = made.tables.each n r.table r.stands in
@@ -48,11 +48,11 @@ returns c =
           ∙ ap (λ h. row_price costs h.chain) (ap start_head x.2 ∙ same_head) in
           let limit = x.0.in_limit in
           let its_cost = cost-in r.table (get_or costs n []) at its.0 its.1 b.number.chain (omega arith) in
-          runs-there checked.plant checked.rules b code start same_head coded.0 (weight_by its.0) (chain_cost_by r.table its.0)
+          runs-there checked.network checked.rules b code start same_head coded.0 (weight_by its.0) (chain_cost_by r.table its.0)
           (λ k. slice_index (get_or known.deep.0 n []) k) f es end r coded.1 coded.2
-          (c.costs_rank_chains.ensures checked.rules checked.plant known.fine n r.table r.stands its.0 its.1
+          (c.costs_rank_chains.ensures checked.rules checked.network known.fine n r.table r.stands its.0 its.1
           (get_or known.deep.0 n []) (known.deep.1.are n r.table r.stands)) (omega arith) (known.deep.2 n b.number.chain))
-          (c.hooks_terminate.ensures.base checked.rules checked.plant known.fine b is_base);
+          (c.hooks_terminate.ensures.base checked.rules checked.network known.fine b is_base);
       steps = made.tables;
       total = λ cost all. total (start_price checked.rules cost) (starts-price checked.rules cost all) ∙ sum_by_costs checked.rules cost;
       cost = omega (arith, total (row_price costs) prices, sum_by_rows checked.rules costs are, known.total costs are);

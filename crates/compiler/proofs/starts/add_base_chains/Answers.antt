@@ -12,7 +12,7 @@ pub loop-table-init : goal.loop-table-init
 loop-table-init c = λ price prices. rw c.requires.none refl
 
 pub add_bases-requires-clause-bounds : goal.add_bases-requires-clause-bounds
-add_bases-requires-clause-bounds c = (or_parts _ _ (none_at (has_wrong_value c.args.checked.now.plant) c.args.names.now
+add_bases-requires-clause-bounds c = (or_parts _ _ (none_at (has_wrong_value c.args.checked.now.network) c.args.names.now
     c.loop-table.table c.index-names-table.result c.loop-table-test.true c.index-names-table.is c.requires.bounds)).1
 
 pub add_bases-requires-clause-long : goal.add_bases-requires-clause-long

@@ -12,7 +12,7 @@ pub loop-place-init : goal.loop-place-init
 loop-place-init c =
     let none = c.requires in
     record {
-      placed = chains_none c.args.plant.now c.args.table c.args.names.now c.args.code.now none.no_steps none.no_chains
+      placed = chains_none c.args.network.now c.args.table c.args.names.now c.args.code.now none.no_steps none.no_chains
           none.no_tables none.none_merged none.none_dropped;
       declared = none.declared;
     }
@@ -33,7 +33,7 @@ loop-place-preserved c =
     let here : length c.list.result.now ≡ length c.loop-place.code.steps.items = ap length c.list.ensures.items in
     let added = rw c.in_ok-to_u32.ensures at c.in_ok-add_chain.ensures in
     record {
-      placed = chains_more c.args.plant.now c.args.table c.args.names.now c.loop-place.place (chain_tree c.chain-item.result.now)
+      placed = chains_more c.args.network.now c.args.table c.args.names.now c.loop-place.place (chain_tree c.chain-item.result.now)
           c.push.new.self c.loop-place.code c.add_chain.new.code (at (goal.at.loop-place-preserved c).In_ok-to_u32)
           (c.in_ok-push.ensures.items ∙ ap (λ n. c.loop-place.code.chain_offsets.items ++ n ∷ []) here)
           added c.loop-place.invariant.placed;
@@ -45,5 +45,5 @@ returns c =
     let long = ap length c.chains-chain-items.ensures.all in
     let same = length-map c.chains-chain-items.result.now (λ (b : Bor Chain). chain_tree b.now) in
     let past : length (chains_of c.args.names.now) ≤ c.loop-place.place = omega arith in
-    chains_all c.args.plant.now c.args.table c.args.names.now c.loop-place.place c.loop-place.code past
+    chains_all c.args.network.now c.args.table c.args.names.now c.loop-place.place c.loop-place.code past
     c.loop-place.invariant.placed

@@ -4,6 +4,6 @@ use Rattle.compiler.proofs.tables.add_chains.Given as goal
 
 abbrev pub invariant-loop-place : goal.invariant-loop-place
 invariant-loop-place l = record {
-  placed : ChainsSoFar l.plant l.table l.names l.place l.code;
-  declared : HasDeclared l.plant l.names l.code.lookups;
+  placed : ChainsSoFar l.network l.table l.names l.place l.code;
+  declared : HasDeclared l.network l.names l.code.lookups;
 }

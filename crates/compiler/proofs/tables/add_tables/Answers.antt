@@ -7,7 +7,7 @@ table_code-requires-clause-types c = none_at table_mismatches c.args.names.now c
     c.index-names-number.result c.loop-number-test.true c.index-names-number.is c.requires.types
 
 pub table_code-requires-clause-bounds : goal.table_code-requires-clause-bounds
-table_code-requires-clause-bounds c = (or_parts _ _ (none_at (has_wrong_value c.args.plant.now) c.args.names.now
+table_code-requires-clause-bounds c = (or_parts _ _ (none_at (has_wrong_value c.args.network.now) c.args.names.now
     c.loop-number.number c.index-names-number.result c.loop-number-test.true c.index-names-number.is c.requires.bounds)).1
 
 pub loop-number-preserved : goal.loop-number-preserved
@@ -19,7 +19,7 @@ loop-number-preserved c =
       c.in_ok-push.ensures.items,
       take_more c.args.names.now c.loop-number.number c.index-names-number.result c.loop-number-test.true,
       ← c.index-names-number.is,
-    ) (codes_more c.args.plant.now _ _ c.index-names-number.result c.in_ok-new.field-0 before
+    ) (codes_more c.args.network.now _ _ c.index-names-number.result c.in_ok-new.field-0 before
     (rw (sym c.in_ok-new.ensures, c.in_ok-to_u32.ensures, place) at c.in_ok-code.ensures))
 
 pub returns : goal.returns

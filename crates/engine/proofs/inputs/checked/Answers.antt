@@ -7,7 +7,7 @@ use Rattle.engine.proofs.inputs.checked.Goals as goal
 
 -- a ruleset that is refused on its box is a fault of the two texts
 of_texts : (rules box : List ℕ) (texts : Spelled rules box) (error : CheckError)
-    → IsCheckRefusal texts.tables texts.plant error → JudgeRefuses rules box (of_check error)
+    → IsCheckRefusal texts.tables texts.network error → JudgeRefuses rules box (of_check error)
 of_texts rules box texts (checks.Refused fault) refused = (texts, refused)
 of_texts rules box texts checks.Memory refused = refused
 
@@ -17,6 +17,6 @@ returns-in_err-check-clause-refused c =
     rw (q.1, q.2) (of_texts _ _ (record {
       tables = tables_of c.in_ok-ruleset.ruleset;
       spelled = c.in_ok-ruleset.ensures.found;
-      plant = c.in_ok-plant.plant;
-      read = c.in_ok-plant.ensures.ok;
+      network = c.in_ok-network.network;
+      read = c.in_ok-network.ensures.ok;
     }) c.in_err-check.field-0.0 c.in_err-check.ensures.refused)

@@ -11,7 +11,7 @@ returns-clause-accepted c =
       texts = record {
         tables = c.in_ok-checked.checked.rules;
         spelled = fine.spelled;
-        plant = c.in_ok-checked.checked.plant;
+        network = c.in_ok-checked.checked.network;
         read = fine.read;
       };
       well_formed = fine.well_formed;

@@ -15,7 +15,7 @@ returns-in_err-checked g c =
     let p = err_from_is_err_and c.from_residual.result c.from_residual.ensures.1 in
     let fault = c.in_err-checked.field-0.0 in
     let old = devices g.R.Read.remaining g.W.Write.contents g.W2.Write.contents c.args.capture.now c.args.sent.now c.args.report.now in
-    let refused = refused_texts c.args.rules.now c.args.plant.now old.unread old fault c.in_err-checked.ensures.refused in
+    let refused = refused_texts c.args.rules.now c.args.network.now old.unread old fault c.in_err-checked.ensures.refused in
     rw (p.1, p.2) (record {
       meaning = tt;
       drained = tt;
@@ -49,7 +49,7 @@ returns-in_err-records g c =
       flushed = tt;
       refused = λ is. absurd (no_record_fault error c.in_err-records.ensures.kinds is);
       memory = λ is. inl (refl, refl);
-      refusals = refuses_open c.args.rules.now c.args.plant.now c.args.trace old.unread old new error accepted left;
+      refusals = refuses_open c.args.rules.now c.args.network.now c.args.trace old.unread old new error accepted left;
       unread = λ is. absurd (no_text_fault error is);
       before_header = λ is. (refl, refl);
       left = left;
@@ -100,7 +100,7 @@ returns g c =
       refused = c.replay_capture.ensures.refused;
       memory = c.replay_capture.ensures.memory;
       refusals = if_err_both _ _ _ _ c.replay_capture.ensures.within c.replay_capture.ensures.left (λ fault within says.
-          refuses_within c.args.rules.now c.args.plant.now c.args.trace old.unread old new fault accepted within (left fault says));
+          refuses_within c.args.rules.now c.args.network.now c.args.trace old.unread old new fault accepted within (left fault says));
       unread = IfErr-weaker _ not_before _ (λ fault within is. absurd (within (texts_before fault is))) c.replay_capture.ensures.within;
       before_header = IfErr-weaker _ not_before _ (λ fault within is. absurd (within is)) c.replay_capture.ensures.within;
       left = IfErr-weaker _ _ _ left c.replay_capture.ensures.left;

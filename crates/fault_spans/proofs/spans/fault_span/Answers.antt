@@ -30,7 +30,7 @@ returns-in_default-2-clause-none c tables s none fault wrong =
     let lexed : map spelled c.deref.result.now ≡ s.0 = rw c.deref.ensures.value (c.in-Ok.ensures.only s.0 s.1) in
     let same : tables_of c.in-Some.tree ≡ tables = rw c.in-Some.is at
     (c.in_ok-tree.ensures.only tables (reads c.deref.result.now s.0 tables lexed s.2)) in
-    subst (λ t. WellFormed t c.args.plant.now) same (c.in_ok-found.ensures.fine c.in_default-2.is) fault wrong
+    subst (λ t. WellFormed t c.args.network.now) same (c.in_ok-found.ensures.fine c.in_default-2.is) fault wrong
 
 pub returns-in_default-get-clause-none : goal.returns-in_default-get-clause-none
 returns-in_default-get-clause-none c given s none fault wrong =
@@ -41,8 +41,8 @@ returns-in_default-get-clause-none c given s none fault wrong =
     let read : SpellsRuleset tables (terminals tokens) = rw c.deref.ensures.value at
     (IfSome_at c.in_ok-tree.field-0 (λ t. SpellsRuleset (tables_of t) (terminals c.deref.result.now)) c.in-Some.tree
     c.in-Some.is c.in_ok-tree.ensures.found) in
-    let done : CompletesFault c.in-Some-2.found.fault node tables c.args.plant.now =
-    IfSome_at c.in_ok-found.field-0 (λ f. CompletesFault f.fault f.node tables c.args.plant.now) c.in-Some-2.found
+    let done : CompletesFault c.in-Some-2.found.fault node tables c.args.network.now =
+    IfSome_at c.in_ok-found.field-0 (λ f. CompletesFault f.fault f.node tables c.args.network.now) c.in-Some-2.found
     c.in-Some-2.is c.in_ok-found.ensures.node in
     let here : SpellsRuleset tables (terminals c.deref-2.result.now) = rw c.deref-2.ensures.value read in
     let stands : NodeStands tokens tables node range = rw c.deref-2.ensures.value at
@@ -60,8 +60,8 @@ returns-in_default-get-2-clause-none c given s none fault wrong =
     let read : SpellsRuleset tables (terminals tokens) = rw c.deref.ensures.value at
     (IfSome_at c.in_ok-tree.field-0 (λ t. SpellsRuleset (tables_of t) (terminals c.deref.result.now)) c.in-Some.tree
     c.in-Some.is c.in_ok-tree.ensures.found) in
-    let done : CompletesFault c.in-Some-2.found.fault node tables c.args.plant.now =
-    IfSome_at c.in_ok-found.field-0 (λ f. CompletesFault f.fault f.node tables c.args.plant.now) c.in-Some-2.found
+    let done : CompletesFault c.in-Some-2.found.fault node tables c.args.network.now =
+    IfSome_at c.in_ok-found.field-0 (λ f. CompletesFault f.fault f.node tables c.args.network.now) c.in-Some-2.found
     c.in-Some-2.is c.in_ok-found.ensures.node in
     let here : SpellsRuleset tables (terminals c.deref-2.result.now) = rw c.deref-2.ensures.value read in
     let stands : NodeStands tokens tables node range = rw c.deref-2.ensures.value at
@@ -89,8 +89,8 @@ returns-clause-found c =
     let read : SpellsRuleset tables (terminals tokens) = rw c.deref.ensures.value at
     (IfSome_at c.in_ok-tree.field-0 (λ t. SpellsRuleset (tables_of t) (terminals c.deref.result.now)) c.in-Some.tree
     c.in-Some.is c.in_ok-tree.ensures.found) in
-    let done : CompletesFault c.in-Some-2.found.fault node tables c.args.plant.now =
-    IfSome_at c.in_ok-found.field-0 (λ f. CompletesFault f.fault f.node tables c.args.plant.now) c.in-Some-2.found
+    let done : CompletesFault c.in-Some-2.found.fault node tables c.args.network.now =
+    IfSome_at c.in_ok-found.field-0 (λ f. CompletesFault f.fault f.node tables c.args.network.now) c.in-Some-2.found
     c.in-Some-2.is c.in_ok-found.ensures.node in
     let here : SpellsRuleset tables (terminals c.deref-2.result.now) = rw c.deref-2.ensures.value read in
     let stands : NodeStands tokens tables node range = rw c.deref-2.ensures.value at

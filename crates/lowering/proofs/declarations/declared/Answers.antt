@@ -15,5 +15,5 @@ loop-map-preserved c =
 pub returns : goal.returns
 returns c =
     let maps = rw (drop_all c.loop-map.map-index c.maps-map-items.result.now (omega arith)) at c.loop-map.invariant in
-    all-declared c.args.plant.now c.args.names.now _ c.in_ok-sets.ensures (rw append-nil at (maps.0 [] none))
+    all-declared c.args.network.now c.args.names.now _ c.in_ok-sets.ensures (rw append-nil at (maps.0 [] none))
     (rw append-nil at (maps.1 [] none))

@@ -4,5 +4,5 @@ use Rattle.lowering.proofs.declarations.declared.Given as goal
 
 abbrev pub invariant-loop-map : goal.invariant-loop-map
 invariant-loop-map l =
-    Completes (IsMapVerdicts l.plant l.names) (map (λ m. map_tree m.now) (drop l.map-index l.map-items)) (maps_of l.names) l.verdicts.items
-    × Completes (IsMapNumbers l.plant) (map (λ m. map_tree m.now) (drop l.map-index l.map-items)) (maps_of l.names) l.numbers.items
+    Completes (IsMapVerdicts l.network l.names) (map (λ m. map_tree m.now) (drop l.map-index l.map-items)) (maps_of l.names) l.verdicts.items
+    × Completes (IsMapNumbers l.network) (map (λ m. map_tree m.now) (drop l.map-index l.map-items)) (maps_of l.names) l.numbers.items

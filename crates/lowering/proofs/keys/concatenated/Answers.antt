@@ -32,12 +32,12 @@ returns-in_err-value c = c.from_residual.ensures ∙ (rw (
 ) at c.loop-part.invariant.1)
 
 -- values of no type
-left_over : (plant : PlantTree) (high : ℕ) (vs : List Value) → 0 < length vs → None ≡ join high (parts plant [] (map value_tree vs))
-left_over plant high [] some = absurd (omega arith)
-left_over plant high (v ∷ vs) some = refl
+left_over : (network : PlantTree) (high : ℕ) (vs : List Value) → 0 < length vs → None ≡ join high (parts network [] (map value_tree vs))
+left_over network high [] some = absurd (omega arith)
+left_over network high (v ∷ vs) some = refl
 
 pub returns-then-values-kinds : goal.returns-then-values-kinds
 returns-then-values-kinds c =
     let i = c.loop-part.part in
-    left_over c.args.plant.now c.loop-part.number (drop i c.args.values.now) (omega (arith, length-drop i c.args.values.now))
+    left_over c.args.network.now c.loop-part.number (drop i c.args.values.now) (omega (arith, length-drop i c.args.values.now))
     ∙ (rw (drop_all i c.args.kinds.now c.loop-part-test.false) at c.loop-part.invariant.1)

@@ -18,12 +18,12 @@ returns-in_err-new g c =
       (refl, (refl, p.2)),
     )
 
-pub returns-in_err-plant : goal.returns-in_err-plant
-returns-in_err-plant g c =
-    let p = err_from_is_err_and c.from_residual-in_err-plant.result c.from_residual-in_err-plant.ensures.1 in
+pub returns-in_err-network : goal.returns-in_err-network
+returns-in_err-network g c =
+    let p = err_from_is_err_and c.from_residual-in_err-network.result c.from_residual-in_err-network.ensures.1 in
     rw p.1 (
       read _ _ ∷ read _ _ ∷ read _ _ ∷ [],
-      (_, c.in_ok-old.ensures, (_, c.in_ok-new.ensures, (_, c.in_err-plant.ensures, refl))),
+      (_, c.in_ok-old.ensures, (_, c.in_ok-new.ensures, (_, c.in_err-network.ensures, refl))),
       (refl, (refl, (refl, p.2))),
     )
 
@@ -31,7 +31,7 @@ pub returns : goal.returns
 returns g c =
     let told = c.compare.ensures in (
       read _ _ ∷ read _ _ ∷ read _ _ ∷ told.0,
-      (_, c.in_ok-old.ensures, (_, c.in_ok-new.ensures, (_, c.in_ok-plant.ensures, told.1))),
+      (_, c.in_ok-old.ensures, (_, c.in_ok-new.ensures, (_, c.in_ok-network.ensures, told.1))),
       (
         refl,
         (refl, (refl, rw (← c.deref.ensures.value, ← c.deref-2.ensures.value, ← c.deref-3.ensures.value) told.2)),

@@ -9,12 +9,12 @@ returns-in_err-rules g c =
     let p = err_from_is_err_and c.from_residual.result c.from_residual.ensures.1 in
     rw p.1 (read _ _ ∷ [], (_, c.in_err-rules.ensures, refl), (refl, p.2))
 
-pub returns-in_err-plant : goal.returns-in_err-plant
-returns-in_err-plant g c =
-    let p = err_from_is_err_and c.from_residual-in_err-plant.result c.from_residual-in_err-plant.ensures.1 in
+pub returns-in_err-network : goal.returns-in_err-network
+returns-in_err-network g c =
+    let p = err_from_is_err_and c.from_residual-in_err-network.result c.from_residual-in_err-network.ensures.1 in
     rw p.1 (
       read _ _ ∷ read _ _ ∷ [],
-      (_, c.in_ok-rules.ensures, (_, c.in_err-plant.ensures, refl)),
+      (_, c.in_ok-rules.ensures, (_, c.in_err-network.ensures, refl)),
       (refl, (refl, p.2)),
     )
 
@@ -23,7 +23,7 @@ returns-in_err-counts g c =
     let p = err_from_is_err_and c.from_residual-in_err-counts.result c.from_residual-in_err-counts.ensures.1 in
     rw p.1 (
       read _ _ ∷ read _ _ ∷ judge _ _ _ ∷ [],
-      (_, c.in_ok-rules.ensures, (_, c.in_ok-plant.ensures, (_, c.in_err-counts.ensures, refl))),
+      (_, c.in_ok-rules.ensures, (_, c.in_ok-network.ensures, (_, c.in_err-counts.ensures, refl))),
       (refl, (refl, (refl, c.deref.ensures.value, p.2))),
     )
 
@@ -38,7 +38,7 @@ returns-in_err-print_accepted g c =
         c.in_ok-rules.ensures,
         (
           _,
-          c.in_ok-plant.ensures,
+          c.in_ok-network.ensures,
           (_, c.in_ok-counts.ensures, (_, c.in_err-print_accepted.ensures, refl)),
         ),
       ),
@@ -53,7 +53,7 @@ returns g c = (
     c.in_ok-rules.ensures,
     (
       _,
-      c.in_ok-plant.ensures,
+      c.in_ok-network.ensures,
       (_, c.in_ok-counts.ensures, (_, c.in_ok-print_accepted.ensures, refl)),
     ),
   ),

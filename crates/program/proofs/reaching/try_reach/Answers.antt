@@ -9,12 +9,12 @@ returns-in_err-rules g c =
     let p = err_from_is_err_and c.from_residual.result c.from_residual.ensures.1 in
     rw p.1 (read _ _ ∷ [], (_, c.in_err-rules.ensures, refl), (refl, p.2))
 
-pub returns-in_err-plant : goal.returns-in_err-plant
-returns-in_err-plant g c =
-    let p = err_from_is_err_and c.from_residual-in_err-plant.result c.from_residual-in_err-plant.ensures.1 in
+pub returns-in_err-network : goal.returns-in_err-network
+returns-in_err-network g c =
+    let p = err_from_is_err_and c.from_residual-in_err-network.result c.from_residual-in_err-network.ensures.1 in
     rw p.1 (
       read _ _ ∷ read _ _ ∷ [],
-      (_, c.in_ok-rules.ensures, (_, c.in_err-plant.ensures, refl)),
+      (_, c.in_ok-rules.ensures, (_, c.in_err-network.ensures, refl)),
       (refl, (refl, p.2)),
     )
 
@@ -23,13 +23,13 @@ returns-in_err-reach g c =
     let p = err_from_is_err_and c.from_residual-in_err-reach.result c.from_residual-in_err-reach.ensures.1 in
     rw p.1 (
       read _ _ ∷ read _ _ ∷ reach _ _ _ _ ∷ [],
-      (_, c.in_ok-rules.ensures, (_, c.in_ok-plant.ensures, (_, c.in_err-reach.ensures, refl))),
+      (_, c.in_ok-rules.ensures, (_, c.in_ok-network.ensures, (_, c.in_err-reach.ensures, refl))),
       (refl, (refl, (refl, c.deref.ensures.value, refl, p.2))),
     )
 
 pub returns : goal.returns
 returns g c = (
   read _ _ ∷ read _ _ ∷ reach _ _ _ _ ∷ [],
-  (_, c.in_ok-rules.ensures, (_, c.in_ok-plant.ensures, (_, c.in_ok-reach.ensures, refl))),
+  (_, c.in_ok-rules.ensures, (_, c.in_ok-network.ensures, (_, c.in_ok-reach.ensures, refl))),
   (refl, (refl, (refl, c.deref.ensures.value, refl, refl))),
 )

@@ -9,24 +9,24 @@ use Rattle.rule_check.proofs.Stages.{after_cycles, after_names, at_none, at_some
 use Rattle.rule_check.proofs.analysis.analyze.Goals as goal
 use Rattle.rule_check.proofs.analysis.analyze.Goals.{In_default, In_ok-fault}
 
-none4 : (c : In_default) → HasNone 1 4 (tables_of c.args.tree.now) c.args.plant.now
-none4 c = after_names (tables_of c.args.tree.now) c.args.plant.now c.args.names.now c.fault_of_names.result
-    c.requires.apart c.requires.names c.in_default.is (c.fault_of_names.ensures c.args.plant.now)
+none4 : (c : In_default) → HasNone 1 4 (tables_of c.args.tree.now) c.args.network.now
+none4 c = after_names (tables_of c.args.tree.now) c.args.network.now c.args.names.now c.fault_of_names.result
+    c.requires.apart c.requires.names c.in_default.is (c.fault_of_names.ensures c.args.network.now)
 
-none5 : (c : In_ok-fault) → HasNone 1 4 (tables_of c.args.tree.now) c.args.plant.now
-    → HasNone 1 5 (tables_of c.args.tree.now) c.args.plant.now
+none5 : (c : In_ok-fault) → HasNone 1 4 (tables_of c.args.tree.now) c.args.network.now
+    → HasNone 1 5 (tables_of c.args.tree.now) c.args.network.now
 none5 c none4 = after_cycles _ _ c.in-Some-2.found none4
-    (findings_of _ c.args.plant.now _ c.in-Some-2.found c.requires.names
+    (findings_of _ c.args.network.now _ c.in-Some-2.found c.requires.names
     (at_some c.in_ok-found.field-0 (Cycles c.args.names.now) (λ found. AreFindings c.args.names.now found) _
     c.in-Some-2.is c.in_ok-found.ensures))
 
 pub returns-in-Some-clause-refused : goal.returns-in-Some-clause-refused
 returns-in-Some-clause-refused c =
     let tables = tables_of c.args.tree.now in
-    let plant = c.args.plant.now in
-    least_reported tables plant 2 4 c.in-Some.fault c.fault_of_names.result
-    (without tables plant faults.DuplicateName c.requires.apart) c.in-Some.is
-    (subst (λ ts. IsLeastFaultIn 2 4 ts plant c.fault_of_names.result) c.requires.names (c.fault_of_names.ensures plant))
+    let network = c.args.network.now in
+    least_reported tables network 2 4 c.in-Some.fault c.fault_of_names.result
+    (without tables network faults.DuplicateName c.requires.apart) c.in-Some.is
+    (subst (λ ts. IsLeastFaultIn 2 4 ts network c.fault_of_names.result) c.requires.names (c.fault_of_names.ensures network))
 
 pub returns-in_default-2-clause-refused : goal.returns-in_default-2-clause-refused
 returns-in_default-2-clause-refused c =

@@ -10,21 +10,21 @@ use Rattle.rule_check.proofs.analysis.fault_of_chains.Goals as goal
 use Rattle.rule_check.proofs.analysis.fault_of_chains.Goals.{After-has_misplaced_chain, After-has_wrong_value}
 
 -- no chain is too deep or too costly, no base chain is called, and all types fit
-typed : (c : After-has_wrong_value) → HasNone 5 9 (tables_of c.args.tree.now) c.args.plant.now
+typed : (c : After-has_wrong_value) → HasNone 5 9 (tables_of c.args.tree.now) c.args.network.now
 typed c =
     let tables = tables_of c.args.tree.now in
-    let plant = c.args.plant.now in
+    let network = c.args.network.now in
     let base : list_any jumps_to_base_chain tables ≡ false = ap (list_any jumps_to_base_chain) (sym c.requires.names)
     ∙ sym c.jumps_to_base_chain.ensures ∙ c.if-jumps_to_base_chain.false in
     let fit : list_any table_mismatches tables ≡ false = ap (list_any table_mismatches) (sym c.requires.names)
     ∙ sym c.has_type_mismatch.ensures ∙ c.if-has_type_mismatch.false in
-    let deep = more tables plant 5 faults.TooDeep (none_yet tables plant 5) (not_so _ _ c.requires.found.deep c.if-found.false) in
-    let costly = more tables plant 5 faults.TooCostly deep (not_so _ _ c.requires.found.costly c.if-found-2.false) in
-    more tables plant 5 faults.TypeMismatch (more tables plant 5 faults.BaseChainCalled costly (not_true _ base)) (not_true _ fit)
+    let deep = more tables network 5 faults.TooDeep (none_yet tables network 5) (not_so _ _ c.requires.found.deep c.if-found.false) in
+    let costly = more tables network 5 faults.TooCostly deep (not_so _ _ c.requires.found.costly c.if-found-2.false) in
+    more tables network 5 faults.TypeMismatch (more tables network 5 faults.BaseChainCalled costly (not_true _ base)) (not_true _ fit)
 
 -- and no value is wrong
-placed : (c : After-has_misplaced_chain) → HasNone 5 9 (tables_of c.args.tree.now) c.args.plant.now
-    → HasNone 5 11 (tables_of c.args.tree.now) c.args.plant.now
+placed : (c : After-has_misplaced_chain) → HasNone 5 9 (tables_of c.args.tree.now) c.args.network.now
+    → HasNone 5 11 (tables_of c.args.tree.now) c.args.network.now
 placed c typed = more _ _ 5 faults.MisplacedNat
     (more _ _ 5 faults.WrongValue typed (not_true _ (sym c.has_wrong_value.ensures ∙ c.if-has_wrong_value.false)))
     (not_so _ _ c.requires.found.nat c.if-found-3.false)

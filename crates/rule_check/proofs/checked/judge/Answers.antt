@@ -11,7 +11,7 @@ use Rattle.rule_check.proofs.checked.judge.Goals as goal
 pub returns-in_default-clause-refused : goal.returns-in_default-clause-refused
 returns-in_default-clause-refused c =
     let tables = tables_of c.args.tree.now in
-    least tables c.args.plant.now faults.DuplicateName (none_yet tables c.args.plant.now 1)
+    least tables c.args.network.now faults.DuplicateName (none_yet tables c.args.network.now 1)
     (at_none c.in_ok-names.field-0 (DuplicateName tables) (λ names. names ≡ map names_in tables) c.in_default.is
     c.in_ok-names.ensures.names)
 

@@ -5,4 +5,4 @@ pub returns-clause-one : goal.returns-clause-one
 returns-clause-one c = one_least
 
 pub returns-clause-faultless : goal.returns-clause-faultless
-returns-clause-faultless c = λ tables plant fault well least. well fault least.wrong
+returns-clause-faultless c = λ tables network fault well least. well fault least.wrong

@@ -14,4 +14,4 @@ pub returns-clause-chains : goal.returns-clause-chains
 returns-clause-chains c = one_chains
 
 pub returns-clause-stages : goal.returns-clause-stages
-returns-clause-stages c = λ stage plant tables. one_chains plant tables _
+returns-clause-stages c = λ stage network tables. one_chains network tables _

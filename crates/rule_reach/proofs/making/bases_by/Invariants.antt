@@ -8,6 +8,6 @@ use Rattle.rule_reach.proofs.making.bases_by.Given as goal
 abbrev pub invariant-loop-table : goal.invariant-loop-table
 invariant-loop-table l = record {
   limit : l.diagrams.limit ≡ l.initial.diagrams.limit;
-  sets : Done l.checked.plant l.checked.rules l.diagrams [] (run_chains l.checked.rules)
+  sets : Done l.checked.network l.checked.rules l.diagrams [] (run_chains l.checked.rules)
       (filter runs (base_chains_of_tables l.table (drop l.table l.checked.rules))) l.bases.items;
 }

@@ -16,6 +16,6 @@ pub returns-clause-value : goal.returns-clause-value
 returns-clause-value c = IfOk-weaker c.met.result _ _ (λ set h.
     met_means c.args.diagrams.now c.rule_ends.new.diagrams c.met.new.diagrams (record { interfaces = c.args.interfaces; written = NOTHING })
     (record { node = 1 }) set
-    (rule_end (table_program c.args.setting.plant.now c.args.rule.table c.args.setting.names.now) c.args.rule.chain c.args.rule.rule 1
+    (rule_end (table_program c.args.setting.network.now c.args.rule.table c.args.setting.names.now) c.args.rule.chain c.args.rule.rule 1
     (map statement c.args.stmts.now)) c.in_ok-ends.ends.items c.ends.ensures.all c.in_ok-ends.ensures.value
     (rw c.deref.ensures.value at h)) c.met.ensures.value

@@ -9,7 +9,7 @@ pub declared-requires : goal.declared-requires
 declared-requires c =
     let list = c.args.tables.now in
     record {
-      types = types_at c.args.plant.now list c.loop-names.names-index c.names-item.result c.requires
+      types = types_at c.args.network.now list c.loop-names.names-index c.names-item.result c.requires
           (slice_get_read list (length list) c.loop-names.names-index c.names-item.result refl c.loop-names-test.true c.names-item.is);
     }
 
@@ -20,5 +20,5 @@ loop-names-preserved c =
     let t = c.names-item.result in
     let at = slice_get_read list (length list) i t refl c.loop-names-test.true c.names-item.is in
     rw (taken_next list i t at, c.in_ok-push.ensures.items)
-    (all_zipped_more (HasDeclared c.args.plant.now) (take i list) c.loop-names.all.items t c.in_ok-declared.field-0 c.loop-names.invariant
+    (all_zipped_more (HasDeclared c.args.network.now) (take i list) c.loop-names.all.items t c.in_ok-declared.field-0 c.loop-names.invariant
     c.in_ok-declared.ensures)

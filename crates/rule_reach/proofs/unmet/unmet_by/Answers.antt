@@ -13,8 +13,8 @@ use Rattle.rule_reach.proofs.unmet.unmet_by.Goals.{else-is_unmet, then-is_unmet+
 pub unmet-requires-clause-sets : goal.unmet-requires-clause-sets
 unmet-requires-clause-sets c =
     let checked = c.args.checked.now in
-    rw (c.plant-plant.ensures, c.deref-2.ensures.value, c.in_ok-tables.ensures)
-    (all_kept checked.plant checked.rules c.args.diagrams.now c.loop-rule.diagrams (run_chains checked.rules) c.args.bases.now
+    rw (c.plant-network.ensures, c.deref-2.ensures.value, c.in_ok-tables.ensures)
+    (all_kept checked.network checked.rules c.args.diagrams.now c.loop-rule.diagrams (run_chains checked.rules) c.args.bases.now
     c.loop-rule.invariant.keeps c.requires.sets)
 
 pub returns-in_err-unmet-clause-keeps : goal.returns-in_err-unmet-clause-keeps
@@ -32,15 +32,15 @@ loop-rule-preserved c =
     let i = c.loop-rule.rule-index in
     let inv = c.loop-rule.invariant in
     let before = rw (← c.deref-rule-items.ensures.value) at inv.rules in
-    let P = IsUnmet checked.plant checked.rules (run_chains checked.rules) in
+    let P = IsUnmet checked.network checked.rules (run_chains checked.rules) in
     elim c.if-is_unmet.branch [
       | then-is_unmet+in_ok-unmet+in_ok-push w ↦ record {
         keeps = rw w.diagrams-is (keeps_trans c.args.diagrams.now c.loop-rule.diagrams w.unmet.new.diagrams inv.keeps w.unmet.ensures.keeps);
-        declared = rw w.lookups-is (rw (c.plant-plant.ensures, c.deref-2.ensures.value, c.in_ok-tables.ensures) at w.in_ok-unmet.ensures.declared);
+        declared = rw w.lookups-is (rw (c.plant-network.ensures, c.deref-2.ensures.value, c.in_ok-tables.ensures) at w.in_ok-unmet.ensures.declared);
         rules = rw (w.all-is, ← c.deref-rule-items.ensures.value) (rule_more list i _ c.loop-rule.all.items w.push.new.self.items w.in_ok-unmet.field-0
             c.loop-rule-test.true (sym w.if-is_unmet.ensures) w.in_ok-unmet.ensures.rule w.in_ok-push.ensures.items before);
         why = rw w.all-is (subst (All P) (sym w.in_ok-push.ensures.items) (All-push P c.loop-rule.all.items w.in_ok-unmet.field-0 inv.why
-            (rw (c.plant-plant.ensures, c.deref-2.ensures.value, c.in_ok-tables.ensures) at w.in_ok-unmet.ensures.why)));
+            (rw (c.plant-network.ensures, c.deref-2.ensures.value, c.in_ok-tables.ensures) at w.in_ok-unmet.ensures.why)));
       }
       | else-is_unmet w ↦ record {
         keeps = rw w.diagrams-is inv.keeps;

@@ -9,7 +9,7 @@ use Rattle.rule_reach.proofs.unmet.unmet_by.Given as goal
 abbrev pub invariant-loop-rule : goal.invariant-loop-rule
 invariant-loop-rule l = record {
   keeps : Keeps l.initial.diagrams l.diagrams;
-  declared : AllZip (HasDeclared l.checked.plant) l.checked.rules l.lookups;
+  declared : AllZip (HasDeclared l.checked.network) l.checked.rules l.lookups;
   rules : map (λ u. u.rule) l.all.items ≡ map (λ r. r.rule) (filter is_unmet (take l.rule-index l.reach.rules.items));
-  why : All (IsUnmet l.checked.plant l.checked.rules (run_chains l.checked.rules)) l.all.items;
+  why : All (IsUnmet l.checked.network l.checked.rules (run_chains l.checked.rules)) l.all.items;
 }

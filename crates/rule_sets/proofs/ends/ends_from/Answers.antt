@@ -12,7 +12,7 @@ use Rattle.rule_sets.proofs.ends.ends_from.Goals as goal
 
 pub after-requires-clause-declared : goal.after-requires-clause-declared
 after-requires-clause-declared c =
-    declared_kept c.args.setting.plant.now c.args.setting.names.now c.args.lookups.now c.loop-stmt.lookups c.loop-stmt.invariant.extends
+    declared_kept c.args.setting.network.now c.args.setting.names.now c.args.lookups.now c.loop-stmt.lookups c.loop-stmt.invariant.extends
     c.requires.declared
 
 pub after-requires-clause-types : goal.after-requires-clause-types
@@ -37,7 +37,7 @@ pub loop-stmt-preserved : goal.loop-stmt-preserved
 loop-stmt-preserved c =
     let i = c.loop-stmt.stmt-index in
     let stmts = c.args.stmts.now in
-    let p = table_program c.args.setting.plant.now c.args.rule.table c.args.setting.names.now in
+    let p = table_program c.args.setting.network.now c.args.rule.table c.args.setting.names.now in
     let last = is_last statement stmts i c.loop-stmt.statement c.loop-stmt.invariant.number c.loop-stmt-test.true in
     record {
       runs = runs_more c.args.diagrams.now c.loop-stmt.diagrams c.after.new.diagrams c.args.reader c.args.set c.loop-stmt.progress
@@ -56,7 +56,7 @@ pub returns-clause-value : goal.returns-clause-value
 returns-clause-value c =
     let i = c.loop-stmt.stmt-index in
     let stmts = c.args.stmts.now in
-    let p = table_program c.args.setting.plant.now c.args.rule.table c.args.setting.names.now in
+    let p = table_program c.args.setting.network.now c.args.rule.table c.args.setting.names.now in
     runs_all _ _ _ _ _ _ _ c.in_ok-finish.field-0.items
     (λ f. ap (λ l. rule_end p c.args.rule.chain c.args.rule.rule (i + 1) (map statement l) f) (drop_all i stmts (omega arith)))
     c.loop-stmt.invariant.runs c.in_ok-finish.ensures

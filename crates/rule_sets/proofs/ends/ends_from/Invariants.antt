@@ -9,8 +9,8 @@ use Rattle.rule_sets.proofs.ends.ends_from.Given as goal
 -- with the statements that are left
 abbrev pub invariant-loop-stmt : goal.invariant-loop-stmt
 invariant-loop-stmt l = record {
-  runs : Runs l.fn.diagrams l.diagrams l.reader l.fn.set l.progress (rule_end (table_program l.setting.plant.now l.rule.table l.setting.names.now) l.rule.chain
-      l.rule.rule (l.stmt-index + 1) (map statement (drop l.stmt-index l.stmts))) (rule_end (table_program l.setting.plant.now l.rule.table
+  runs : Runs l.fn.diagrams l.diagrams l.reader l.fn.set l.progress (rule_end (table_program l.setting.network.now l.rule.table l.setting.names.now) l.rule.chain
+      l.rule.rule (l.stmt-index + 1) (map statement (drop l.stmt-index l.stmts))) (rule_end (table_program l.setting.network.now l.rule.table
       l.setting.names.now) l.rule.chain l.rule.rule 1 (map statement l.stmts));
   extends : Extends l.fn.lookups l.lookups;
   number : l.statement ≡ l.stmt-index + 1;

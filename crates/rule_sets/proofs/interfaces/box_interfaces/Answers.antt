@@ -8,5 +8,5 @@ twice g f (x ∷ xs) = ap (λ ys. g (f x) ∷ ys) (twice g f xs)
 
 pub returns : goal.returns
 returns c =
-    c.new.ensures ∙ c.in_ok-interfaces.ensures ∙ ap (map (interface_facts c.args.plant.now)) (c.deref.ensures.value ∙ c.in_ok-indexes.ensures)
-    ∙ twice (interface_facts c.args.plant.now) (λ i. i.index) c.args.plant.now.interfaces
+    c.new.ensures ∙ c.in_ok-interfaces.ensures ∙ ap (map (interface_facts c.args.network.now)) (c.deref.ensures.value ∙ c.in_ok-indexes.ensures)
+    ∙ twice (interface_facts c.args.network.now) (λ i. i.index) c.args.network.now.interfaces

@@ -10,7 +10,7 @@ use Rattle.rule_values.proofs.contradictions.add_entries.Goals.{in-Some+in_ok-pu
 
 pub loop-pair-preserved : goal.loop-pair-preserved
 loop-pair-preserved c =
-    let more = gathered (map_entry_of c.args.plant.now (elements_tree c.args.elements.now)) pair_tree c.args.elements.now.pairs.now
+    let more = gathered (map_entry_of c.args.network.now (elements_tree c.args.elements.now)) pair_tree c.args.elements.now.pairs.now
     c.loop-pair.pair-index c.pair-item.result c.loop-pair.names.keys c.entry.new.names.keys c.loop-pair.pairs.items
     c.match-branch-2.pairs.items c.in_ok-entry.field-0 c.loop-pair-test.true c.pair-item.is c.loop-pair.invariant
     c.in_ok-entry.ensures.keeps c.in_ok-entry.ensures.entry in
@@ -22,6 +22,6 @@ loop-pair-preserved c =
     ]
 
 pub returns : goal.returns
-returns c = gathered-all (map_entry_of c.args.plant.now (elements_tree c.args.elements.now)) pair_tree
+returns c = gathered-all (map_entry_of c.args.network.now (elements_tree c.args.elements.now)) pair_tree
     c.args.elements.now.pairs.now c.loop-pair.pair-index c.loop-pair.names.keys c.loop-pair.pairs.items
     c.loop-pair-test.false c.loop-pair.invariant

@@ -9,4 +9,4 @@ use Rattle.rule_values.proofs.contradictions.add_entries.Given as goal
 -- the pairs are those of the elements so far
 abbrev pub invariant-loop-pair : goal.invariant-loop-pair
 invariant-loop-pair l = RepresentEach l.names.keys
-    (filter_map (map_entry_of l.plant (elements_tree l.elements)) (map pair_tree (take l.pair-index l.pair-items))) l.pairs.items
+    (filter_map (map_entry_of l.network (elements_tree l.elements)) (map pair_tree (take l.pair-index l.pair-items))) l.pairs.items

@@ -5,7 +5,7 @@ use Rattle.rule_values.proofs.contradictions.any_contradicts.Goals as goal
 
 pub loop-part-preserved : goal.loop-part-preserved
 loop-part-preserved g c =
-    none_here (map_contradicts c.args.plant.now) g.T.HasMaps.maps_of g.T.HasMaps.tree _ _ c.loop-part.invariant c.part-item.result
+    none_here (map_contradicts c.args.network.now) g.T.HasMaps.maps_of g.T.HasMaps.tree _ _ c.loop-part.invariant c.part-item.result
     c.loop-part-test.true c.part-item.is (sym c.if-branch.false ∙ c.in_ok-contradicts.ensures)
 
 pub returns-then-branch : goal.returns-then-branch

@@ -7,7 +7,7 @@ use Rattle.rule_values.proofs.values.elements_fail.Goals as goal
 
 pub loop-element-preserved : goal.loop-element-preserved
 loop-element-preserved c =
-    none_here (fails c.args.value_check c.args.plant.now) (λ e. key_ranges (key_types_of c.args.kinds.now) e.key) element_tree
+    none_here (fails c.args.value_check c.args.network.now) (λ e. key_ranges (key_types_of c.args.kinds.now) e.key) element_tree
     _ _ c.loop-element.invariant c.element-item.result c.loop-element-test.true c.element-item.is c.if-key_fails.ensures
 
 pub returns-then-key_fails : goal.returns-then-key_fails

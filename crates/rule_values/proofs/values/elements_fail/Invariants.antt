@@ -7,4 +7,4 @@ use Rattle.rule_values.proofs.values.elements_fail.Given as goal
 
 -- no value of the elements so far fails
 abbrev pub invariant-loop-element : goal.invariant-loop-element
-invariant-loop-element l = NoneBefore (fails l.value_check l.plant) (λ e. key_ranges (key_types_of l.kinds) e.key) element_tree l.elements l.element-index
+invariant-loop-element l = NoneBefore (fails l.value_check l.network) (λ e. key_ranges (key_types_of l.kinds) e.key) element_tree l.elements l.element-index

@@ -9,6 +9,6 @@ use Rattle.rule_values.proofs.values.joined_fail.Given as goal
 
 -- the result is that for the remaining values
 abbrev pub invariant-loop-part : goal.invariant-loop-part
-invariant-loop-part l = list_any (fails l.value_check l.plant)
+invariant-loop-part l = list_any (fails l.value_check l.network)
     (joined_ranges (key_types_of l.kinds) (map value_tree l.values))
-    ≡ list_any (fails l.value_check l.plant) (joined_from (key_types_of l.kinds) l.values l.part)
+    ≡ list_any (fails l.value_check l.network) (joined_from (key_types_of l.kinds) l.values l.part)

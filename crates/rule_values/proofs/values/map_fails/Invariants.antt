@@ -6,4 +6,4 @@ use Rattle.rule_values.proofs.values.map_fails.Given as goal
 
 -- no value of the pairs so far fails
 abbrev pub invariant-loop-pair : goal.invariant-loop-pair
-invariant-loop-pair l = NoneBefore (fails l.value_check l.plant) (pair_ranges (elements_tree l.elements)) pair_tree l.pair-items l.pair-index
+invariant-loop-pair l = NoneBefore (fails l.value_check l.network) (pair_ranges (elements_tree l.elements)) pair_tree l.pair-items l.pair-index

@@ -4,7 +4,7 @@ use Rattle.rule_values.proofs.values.parts_fail.Goals as goal
 
 pub loop-part-preserved : goal.loop-part-preserved
 loop-part-preserved g c =
-    none_here (fails c.args.value_check c.args.plant.now) g.T.HasRanges.ranges_of g.T.HasRanges.tree _ _ c.loop-part.invariant c.part-item.result
+    none_here (fails c.args.value_check c.args.network.now) g.T.HasRanges.ranges_of g.T.HasRanges.tree _ _ c.loop-part.invariant c.part-item.result
     c.loop-part-test.true c.part-item.is c.if-some_fails.ensures
 
 pub returns-then-some_fails : goal.returns-then-some_fails

@@ -10,7 +10,7 @@ use Rattle.ruleset_diff.proofs.diffing.ruleset_diff.Goals as goal
 pub loop-stage-init : goal.loop-stage-init
 loop-stage-init c = record {
   limit = c.in_ok-diagrams.ensures.limit;
-  are = to_none c.args.old.now.plant c.args.old.now.rules c.args.new.now.rules (assumption c.args.assumed) c.in_ok-diagrams.diagrams c.new-differences.result.items
+  are = to_none c.args.old.now.network c.args.old.now.rules c.args.new.now.rules (assumption c.args.assumed) c.in_ok-diagrams.diagrams c.new-differences.result.items
       c.new-differences.ensures.items;
 }
 
@@ -20,14 +20,14 @@ add_stage-requires-clause-interfaces c = c.in_ok-interfaces.ensures ∙ ap inter
 pub loop-stage-preserved : goal.loop-stage-preserved
 loop-stage-preserved c = record {
   limit = c.add_stage.ensures.keeps.limit ∙ c.loop-stage.invariant.limit;
-  are = to_more c.args.old.now.plant c.args.old.now.rules c.args.new.now.rules (assumption c.args.assumed) c.loop-stage.diagrams c.add_stage.new.diagrams c.loop-stage.stage-index _
+  are = to_more c.args.old.now.network c.args.old.now.rules c.args.new.now.rules (assumption c.args.assumed) c.loop-stage.diagrams c.add_stage.new.diagrams c.loop-stage.stage-index _
       c.loop-stage.differences.items c.add_stage.new.differences.items (slice_get-get_or STAGES c.loop-stage.stage-index _ c.loop-stage-test.true)
       c.add_stage.ensures.keeps c.in_ok-add_stage.ensures.adds c.loop-stage.invariant.are;
 }
 
 pub returns-clause-differences : goal.returns-clause-differences
 returns-clause-differences c =
-    to_all c.args.old.now.plant c.args.old.now.rules c.args.new.now.rules (assumption c.args.assumed) c.loop-stage.diagrams c.loop-stage.stage-index c.loop-stage.differences.items
+    to_all c.args.old.now.network c.args.old.now.rules c.args.new.now.rules (assumption c.args.assumed) c.loop-stage.diagrams c.loop-stage.stage-index c.loop-stage.differences.items
     c.loop-stage-test.false c.loop-stage.invariant.are
 
 pub returns-clause-limit : goal.returns-clause-limit

@@ -40,10 +40,10 @@ returns-clause-value c =
     let d = c.through_all.new.diagrams in
     let e = c.accepted_of.new.diagrams in
     let found = c.in_ok-accepted_of.field-0 in
-    accepted_by_filters (interfaces_of checked.plant) checked.plant checked.rules d0 d e c.args.set found c.in_ok-outcomes.outcomes.items
-    (same_ends _ (interfaces_of checked.plant) _ checked.plant c.deref-2.result.now checked.rules (map base_chain c.deref-3.result.now)
+    accepted_by_filters (interfaces_of checked.network) checked.network checked.rules d0 d e c.args.set found c.in_ok-outcomes.outcomes.items
+    (same_ends _ (interfaces_of checked.network) _ checked.network c.deref-2.result.now checked.rules (map base_chain c.deref-3.result.now)
     (filters_of checked.rules) d0 d c.args.set c.in_ok-outcomes.outcomes.items
-    (c.in_ok-interfaces.ensures ∙ ap interfaces_of c.plant-plant.ensures) c.plant-plant.ensures
+    (c.in_ok-interfaces.ensures ∙ ap interfaces_of c.plant-network.ensures) c.plant-network.ensures
     (c.deref-2.ensures.value ∙ c.in_ok-tables.ensures)
     (ap (map base_chain) c.deref-3.ensures.value ∙ c.in_ok-bases.ensures ∙ ap filters_of (c.deref.ensures.value ∙ c.in_ok-tables.ensures))
     c.in_ok-outcomes.ensures.value)
@@ -53,7 +53,7 @@ returns-clause-value c =
 pub returns-in_err-outcomes-clause-too_deep : goal.returns-in_err-outcomes-clause-too_deep
 returns-in_err-outcomes-clause-too_deep c = passed_on c.from_residual-in_err-outcomes.result _ (λ e same deep.
     let checked = c.args.checked.now in
-    nests_among LEVELS _ checked.plant _ checked.rules (map base_chain c.deref-3.result.now) (filters_of checked.rules) c.plant-plant.ensures
+    nests_among LEVELS _ checked.network _ checked.rules (map base_chain c.deref-3.result.now) (filters_of checked.rules) c.plant-network.ensures
     (c.deref-2.ensures.value ∙ c.in_ok-tables.ensures)
     (λ b among. subst (λ l. Contains l b) (ap (map base_chain) c.deref-3.ensures.value ∙ c.in_ok-bases.ensures
     ∙ ap filters_of (c.deref.ensures.value ∙ c.in_ok-tables.ensures)) among) (c.in_err-outcomes.ensures.too_deep (sym same ∙ deep)))

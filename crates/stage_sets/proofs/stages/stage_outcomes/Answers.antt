@@ -25,7 +25,7 @@ returns-clause-value c = IfOk-weaker c.through_all.result _ _ (λ outcomes ends 
     let bases = c.in_ok-bases.bases.items in
     let here = subst (λ tables. AreChainsOf tables c.args.stage (map base_chain bases)) (c.deref.ensures.value ∙ c.in_ok-tables.ensures)
     c.in_ok-bases.ensures in
-    same_ends _ _ _ _ _ _ _ _ _ _ _ _ (c.in_ok-interfaces.ensures ∙ ap interfaces_of c.plant-plant.ensures) c.plant-plant.ensures
+    same_ends _ _ _ _ _ _ _ _ _ _ _ _ (c.in_ok-interfaces.ensures ∙ ap interfaces_of c.plant-network.ensures) c.plant-network.ensures
     (c.deref-2.ensures.value ∙ c.in_ok-tables.ensures)
     (ap (map base_chain) c.deref-3.ensures.value
     ∙ c.hook_result_unique.ensures.order (filter (chains_in_stage c.args.stage) (base_chains_of checked.rules)) (map base_chain bases) order here are)
@@ -36,7 +36,7 @@ returns-clause-too_deep c = IfErr-weaker c.through_all.result _ _ (λ e why deep
     let checked = c.args.checked.now in
     let order = map base_chain c.in_ok-bases.bases.items in
     let here = subst (λ tables. AreChainsOf tables c.args.stage order) (c.deref.ensures.value ∙ c.in_ok-tables.ensures) c.in_ok-bases.ensures in
-    nests_among LEVELS _ checked.plant _ checked.rules (map base_chain c.deref-3.result.now)
-    (filter (chains_in_stage c.args.stage) (base_chains_of checked.rules)) c.plant-plant.ensures (c.deref-2.ensures.value ∙ c.in_ok-tables.ensures)
+    nests_among LEVELS _ checked.network _ checked.rules (map base_chain c.deref-3.result.now)
+    (filter (chains_in_stage c.args.stage) (base_chains_of checked.rules)) c.plant-network.ensures (c.deref-2.ensures.value ∙ c.in_ok-tables.ensures)
     (λ b among. in_text (filter (chains_in_stage c.args.stage) (base_chains_of checked.rules)) order here b
     (subst (λ l. Contains (map base_chain l) b) c.deref-3.ensures.value among)) (why deep)) c.through_all.ensures.too_deep

@@ -18,8 +18,8 @@ loop-base-init c =
     let d = c.args.diagrams.now in
     record {
       keeps = keeps_same d;
-      ends = subst (λ l. AreStageEnds c.args.interfaces.now (end_of_chains c.args.plant.now c.args.tables.now []) d d c.args.set l)
-          (sym c.in_ok-outcomes.ensures) (none_yet c.args.plant.now c.args.tables.now c.args.interfaces.now c.args.set d c.requires.set);
+      ends = subst (λ l. AreStageEnds c.args.interfaces.now (end_of_chains c.args.network.now c.args.tables.now []) d d c.args.set l)
+          (sym c.in_ok-outcomes.ensures) (none_yet c.args.network.now c.args.tables.now c.args.interfaces.now c.args.set d c.requires.set);
     }
 
 pub through-requires-clause-types : goal.through-requires-clause-types
@@ -27,7 +27,7 @@ through-requires-clause-types c =
     let tables = c.args.tables.now in
     let b = c.base-item.result in
     let lt = subst (StandsIn tables) (sym c.base-item.is) (c.requires.bases c.loop-base.base-index b c.loop-base-test.true) in
-    types_at c.args.plant.now tables b.number.table c.index-tables-base.result c.requires.fine
+    types_at c.args.network.now tables b.number.table c.index-tables-base.result c.requires.fine
     (slice_get_read tables (length tables) b.number.table c.index-tables-base.result refl lt c.index-tables-base.is)
 
 pub through-requires-clause-bounds : goal.through-requires-clause-bounds
@@ -35,7 +35,7 @@ through-requires-clause-bounds c =
     let tables = c.args.tables.now in
     let b = c.base-item.result in
     let lt = subst (StandsIn tables) (sym c.base-item.is) (c.requires.bases c.loop-base.base-index b c.loop-base-test.true) in
-    bounds_at c.args.plant.now tables b.number.table c.index-tables-base.result c.requires.fine
+    bounds_at c.args.network.now tables b.number.table c.index-tables-base.result c.requires.fine
     (slice_get_read tables (length tables) b.number.table c.index-tables-base.result refl lt c.index-tables-base.is)
 
 pub returns-in_err-outcomes-2-clause-keeps : goal.returns-in_err-outcomes-2-clause-keeps
@@ -44,7 +44,7 @@ returns-in_err-outcomes-2-clause-keeps c =
 
 pub loop-base-preserved : goal.loop-base-preserved
 loop-base-preserved c =
-    let plant = c.args.plant.now in
+    let network = c.args.network.now in
     let tables = c.args.tables.now in
     let inside = c.args.interfaces.now in
     let bases = c.args.bases.now in
@@ -60,22 +60,22 @@ loop-base-preserved c =
     let at = slice_get_read tables (length tables) b.number.table names refl lt c.index-tables-base.is in
     record {
       keeps = keeps_trans d0 d e c.loop-base.invariant.keeps c.through.ensures.keeps;
-      ends = subst (λ bs. AreStageEnds inside (end_of_chains plant tables bs) d0 e c.args.set after)
+      ends = subst (λ bs. AreStageEnds inside (end_of_chains network tables bs) d0 e c.args.set after)
           (sym (map-more base_chain bases i b c.loop-base-test.true c.base-item.is))
-          (one_more plant tables inside c.args.set d0 d e (map base_chain (take i bases)) (base_chain b) before after c.loop-base.invariant.ends
-          (at_index plant tables inside (base_chain b) names d e c.deref.result.now before after at c.deref.ensures.value
+          (one_more network tables inside c.args.set d0 d e (map base_chain (take i bases)) (base_chain b) before after c.loop-base.invariant.ends
+          (at_index network tables inside (base_chain b) names d e c.deref.result.now before after at c.deref.ensures.value
           c.in_ok-outcomes-2.ensures.value));
     }
 
 pub returns-in_err-outcomes-2-clause-too_deep : goal.returns-in_err-outcomes-2-clause-too_deep
 returns-in_err-outcomes-2-clause-too_deep c = passed_on c.from_residual-in_err-outcomes-2.result _ (λ e same deep.
-    let plant = c.args.plant.now in
+    let network = c.args.network.now in
     let tables = c.args.tables.now in
     let bases = c.args.bases.now in
     let i = c.loop-base.base-index in
     let b = c.base-item.result in
     let lt = subst (StandsIn tables) (sym c.base-item.is) (c.requires.bases i b c.loop-base-test.true) in
-    nests_here LEVELS plant tables (map base_chain bases) (base_chain b) c.index-tables-base.result
+    nests_here LEVELS network tables (map base_chain bases) (base_chain b) c.index-tables-base.result
     (slice_get_read tables (length tables) b.number.table c.index-tables-base.result refl lt c.index-tables-base.is)
     (subst (λ x. Contains (map base_chain bases) (base_chain x)) (sym c.base-item.is)
     (Contains-map base_chain bases (get_or bases i b) (Contains-get_or bases i b c.loop-base-test.true)))

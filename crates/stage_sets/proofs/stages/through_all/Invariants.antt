@@ -9,6 +9,6 @@ use Rattle.stage_sets.proofs.stages.through_all.Given as goal
 abbrev pub invariant-loop-base : goal.invariant-loop-base
 invariant-loop-base l = record {
   keeps : Keeps l.fn.diagrams l.diagrams;
-  ends : AreStageEnds l.interfaces (end_of_chains l.plant l.tables (map base_chain (take l.base-index l.bases))) l.fn.diagrams l.diagrams l.fn.set
+  ends : AreStageEnds l.interfaces (end_of_chains l.network l.tables (map base_chain (take l.base-index l.bases))) l.fn.diagrams l.diagrams l.fn.set
       l.outcomes.items;
 }

@@ -35,7 +35,7 @@ pub returns-clause-value : goal.returns-clause-value
 returns-clause-value c =
     let number = c.args.base.number in
     let policy = policy_of (base_chain c.args.base).head in
-    let p = table_program c.args.place.setting.plant.now number.table c.args.place.setting.names.now in
+    let p = table_program c.args.place.setting.network.now number.table c.args.place.setting.names.now in
     let inside = c.args.place.interfaces.now in
     let d0 = c.args.diagrams.now in
     let d1 = c.merged.new.diagrams in

@@ -8,7 +8,7 @@ use Rattle.system_host.proofs.analysis.analyze.Goals as goal
 
 abbrev accepted_by : (rules box : Text) (checked : CheckedTree) → IsChecked rules box checked → Accepted rules box
 accepted_by rules box checked is = record {
-  setup = record { rules = checked.rules; plant = checked.plant };
+  setup = record { rules = checked.rules; network = checked.network };
   spelled = is.spelled;
   read = is.read;
   well_formed = is.well_formed;

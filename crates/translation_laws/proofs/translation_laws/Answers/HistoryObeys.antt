@@ -75,9 +75,9 @@ twice : (kind : Kind) → inverse_kind (inverse_kind kind) ≡ kind
 twice kind = grind arith
 
 -- whether the statement that gave a source names ports
-named_so : (plant : PlantTree) (f : Facts) (d : NewConnection) (verdict : HookVerdict) (x : ExternalSource)
-    → external_source plant f d verdict ≡ Some x → is_some x.ports ≡ names_ports verdict
-named_so plant f d verdict x e = grind arith
+named_so : (network : PlantTree) (f : Facts) (d : NewConnection) (verdict : HookVerdict) (x : ExternalSource)
+    → external_source network f d verdict ≡ Some x → is_some x.ports ≡ names_ports verdict
+named_so network f d verdict x e = grind arith
 
 told_some : (named : Bool) (o : Option ℕ) → (port_choice_by named o ≡ None → ⊥) → port_choice_by named o ≡ Some named
 told_some named o allocated = grind arith
@@ -119,7 +119,7 @@ module _ (laws : Laws) (setup : Setup) (history : List Entry) (r : Recorded) (e 
     flags = flags_in (transport_of a.packet)
 
     abbrev input : Interface
-    input = interface_facts setup.plant a.interface
+    input = interface_facts setup.network a.interface
 
     -- the live mappings beside it
     abbrev others : List Mapping
@@ -222,7 +222,7 @@ module _ (laws : Laws) (setup : Setup) (history : List Entry) (r : Recorded) (e 
     module _ (interface : ℕ) (passed : e.outcome ≡ Passed interface) (created : IsTrue (is_creation e.tracked.change))
         (ports : has_ports t.kind ≡ true) (m : Mapping) (among : Contains others m) (kind : m.kind ≡ t.kind)
         (external : m.external ≡ t.destination)
-        (other : is_same_interface a.interface (owner setup.plant m.external.address) ≡ false)
+        (other : is_same_interface a.interface (owner setup.network m.external.address) ≡ false)
         (untold : did_nat_act e.events ≡ false) where
       -- the mapping, by the packet's tuple
       abbrev own : Mapping
@@ -248,7 +248,7 @@ module _ (laws : Laws) (setup : Setup) (history : List Entry) (r : Recorded) (e 
       external_is : (x : Option ExternalSource) → HasSource setup others input run_inside x p.end → x ≡ Some at_external
       external_is x (delivered none is) = cc (ap outcome_by (sym none) ∙ sym p.outcome ∙ passed)
       external_is x (forwarded_on asked q later among is) =
-          let entered : is_same_interface a.interface (owner setup.plant t.destination.address) ≡ false = rw external at other in
+          let entered : is_same_interface a.interface (owner setup.network t.destination.address) ≡ false = rw external at other in
           let accepted = q.accepted (none_earlier asked.events later (rw among at none_told)) in
           sym (rw (accepted, q.entered, entered) at is)
 
@@ -283,7 +283,7 @@ module _ (laws : Laws) (setup : Setup) (history : List Entry) (r : Recorded) (e 
           → with_source_nat others behind x ≡ Some n.left
           → (end : HookResult) × EndsSourceNat setup e end × (n.left.has_port_range ≡ names_ports end.verdict)
       who_allocates m from None source drafted =
-          let none = (turned_so laws setup.plant others n.asked.facts t n.asked.verdict).none in
+          let none = (turned_so laws setup.network others n.asked.facts t n.asked.verdict).none in
           absurd (cc (none, same_Some behind n.left drafted, from))
       who_allocates m from (Some x) (delivered output none) drafted = absurd (none-some x (sym none))
       who_allocates m from (Some x) (forwarded_on end asked later among is) drafted =
@@ -297,7 +297,7 @@ module _ (laws : Laws) (setup : Setup) (history : List Entry) (r : Recorded) (e 
               later = later;
               among = p.events ∙ among;
             },
-            sym (ap (λ (d : NewConnection). d.has_port_range) r.2) ∙ named_so setup.plant end.facts behind end.verdict x is,
+            sym (ap (λ (d : NewConnection). d.has_port_range) r.2) ∙ named_so setup.network end.facts behind end.verdict x is,
           )
 
     allocated_among : Does → (m : Mapping) → source_begun e.tracked.change ≡ Some m → AllocatedAmong setup e others m

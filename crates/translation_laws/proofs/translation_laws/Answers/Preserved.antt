@@ -229,8 +229,8 @@ pub record IsDrafted (mappings : List Mapping) (t : Tuple) (d : NewConnection) :
 module _ (laws : Laws) where
   -- ---- behind destination NAT
 
-  module _ (plant : PlantTree) (mappings : List Mapping) (f : Facts) (t : Tuple) where
-    pub turned_so : (verdict : HookVerdict) → IsTurned mappings t (with_destination_nat plant mappings f (new_connection_of t) verdict)
+  module _ (network : PlantTree) (mappings : List Mapping) (f : Facts) (t : Tuple) where
+    pub turned_so : (verdict : HookVerdict) → IsTurned mappings t (with_destination_nat network mappings f (new_connection_of t) verdict)
     turned_so verdict = grind arith
 
   -- ---- behind source NAT
@@ -355,7 +355,7 @@ module _ (laws : Laws) (history : List Entry) (held : List ConntrackEntry) (k : 
   its_draft setup input t new shaped s n =
       drafted laws mappings k.one (λ m among. (k.allocated m among).0) t new shaped
       (turned_by setup mappings input (new_connection_of t) n.asked)
-      (turned_so laws setup.plant mappings n.asked.facts t n.asked.verdict) n.external n.left n.drafted
+      (turned_so laws setup.network mappings n.asked.facts t n.asked.verdict) n.external n.left n.drafted
 
   module _ (e : Entry) where
     still_allocated : (m : Mapping) → IsAllocated history m → IsAllocated (e ∷ history) m
@@ -480,7 +480,7 @@ module _ (laws : Laws) (setup : Setup) where
         let shaped = tuple_shaped a.packet t q.read in
         rw n.is (begun_so b none (arrival_of m a.packet t) (mark_in q.end.facts.ct) n.left (rw n.is at q.tracked) shaped
         (its_draft laws history (after_end b held) (ended laws history held here.mapped b) setup
-        (interface_facts setup.plant a.interface) t new shaped q.end n)
+        (interface_facts setup.network a.interface) t new shaped q.end n)
         (q.port_choice ∙ ap (port_choice_for (beside held a.packet t)) n.is)
         (unrefused (nat_le max_connections (length (after_end b held))) (is_taken (reply_to n.left) (after_end b held)) free))
 

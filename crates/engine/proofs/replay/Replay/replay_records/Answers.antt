@@ -27,7 +27,7 @@ module _ (g : given.Over) (c : After-next g) where
 
   -- a replay notes each record
   counts : (c.flush_before_read.new.self.engine.records ≡ c.flush_before_read.new.self.records.count)
-      × (c.flush_before_read.new.self.numbers.records ≡ c.flush_before_read.new.self.records.count)
+      × (c.flush_before_read.new.self.report.records ≡ c.flush_before_read.new.self.records.count)
   counts =
       let flushed = c.flush_before_read.ensures.same in
       let count = ap (λ (s : CaptureState). s.count) (sym flushed.1) in (

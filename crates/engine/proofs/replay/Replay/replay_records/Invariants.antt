@@ -7,12 +7,12 @@ abbrev pub invariant-each : goal.invariant-each
 invariant-each g l = record {
   going : l.self.records.fault ≡ None;
   taken : l.self.engine.records ≡ l.self.records.count;
-  noted : l.self.numbers.records ≡ l.self.records.count;
+  noted : l.self.report.records ≡ l.self.records.count;
   read_calm : l.capture.failures ≡ l.fn.capture.failures;
   write_calm : l.sent.failures ≡ l.fn.sent.failures;
   write_without_failure : l.report.failures ≡ l.fn.report.failures;
   few : length l.self.records.held ≤ READ_AHEAD;
-  pending : length l.self.numbers.notes ≤ 69633;
+  pending : length l.self.report.notes ≤ 69633;
   drained : l.self.records.ended ≡ true → IsAtEnd (g.R.Read.remaining l.capture.inner);
   represents : RepresentsSome l.self.engine;
   carried : OfBegun l.fn.self

@@ -34,5 +34,5 @@ returns-clause-begun g c =
 pub returns-in_err-records-clause-refusals : goal.returns-in_err-records-clause-refusals
 returns-in_err-records-clause-refusals g c =
     let q = err_from_is_err_and c.from_residual-in_err-records.result c.from_residual-in_err-records.ensures.1 in
-    rw (q.1, q.2) (refuses_header c.args.rules.now c.args.plant.now (g.R.Read.remaining c.args.capture.now.inner)
+    rw (q.1, q.2) (refuses_header c.args.rules.now c.args.network.now (g.R.Read.remaining c.args.capture.now.inner)
     c.in_err-records.field-0.0 (accepted_of c.in_ok-checked.ensures.fine) c.in_err-records.ensures.refused)

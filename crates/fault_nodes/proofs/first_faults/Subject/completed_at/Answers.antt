@@ -7,11 +7,11 @@ pub loop-with-init : goal.loop-with-init
 loop-with-init c =
     let subject = c.args.self.now in
     let tables = tables_of subject.tree.now in
-    let plant = subject.plant.now in (
-      omega (arith, some_to_read subject.fault tables plant c.requires.has, c.requires.total),
+    let network = subject.network.now in (
+      omega (arith, some_to_read subject.fault tables network c.requires.has, c.requires.total),
       omega arith,
-      has_at_end subject.fault tables plant c.args.total c.requires.total c.requires.has,
-      none_at_start subject.fault tables plant,
+      has_at_end subject.fault tables network c.args.total c.requires.total c.requires.has,
+      none_at_start subject.fault tables network,
     )
 
 pub returns-clause-with_it : goal.returns-clause-with_it

@@ -8,8 +8,8 @@ use Rattle.fault_nodes.proofs.first_faults.Subject.completed_at.Given as goal
 abbrev pub invariant-loop-with : goal.invariant-loop-with
 invariant-loop-with l =
     (l.without < l.with) × (l.with ≤ l.total)
-    × LeastFault l.self.fault (read_up_to l.with (tables_of l.self.tree.now)) l.self.plant.now
-    × (LeastFault l.self.fault (read_up_to l.without (tables_of l.self.tree.now)) l.self.plant.now → ⊥)
+    × LeastFault l.self.fault (read_up_to l.with (tables_of l.self.tree.now)) l.self.network.now
+    × (LeastFault l.self.fault (read_up_to l.without (tables_of l.self.tree.now)) l.self.network.now → ⊥)
 
 abbrev pub decreases-loop-with : goal.decreases-loop-with
 decreases-loop-with l = l.with - l.without

@@ -14,7 +14,7 @@ returns-clause-end c =
     let es = c.args.events.now.events in
     let end = c.run_in_order.ensures.end ∙ ap (λ (ss : List Start). in_order_result r.code ss f es) c.starts.ensures in
     rw (← c.self.view_is)
-    (subst (Chains r.checked.plant r.checked.rules (chains_in_stage stage) f es) (sym end)
+    (subst (Chains r.checked.network r.checked.rules (chains_in_stage stage) f es) (sym end)
     (chains_run r.checked r.code (chains_in_stage stage) (staged_starts r.stages stage)
     (c.self.invariant.starts stage) f es))
 

@@ -4,7 +4,7 @@ use Rattle.rule_check.proofs.checked.Checked.known_bounds.Goals as goal
 
 pub returns-clause-total : goal.returns-clause-total
 returns-clause-total c = rw (← c.self.view_is)
-    (total (tables_of c.self.inside.tree) c.self.inside.plant c.self.inside.names c.self.inside.costs.items c.self.invariant)
+    (total (tables_of c.self.inside.tree) c.self.inside.network c.self.inside.names c.self.inside.costs.items c.self.invariant)
 
 pub returns-clause-deep : goal.returns-clause-deep
 returns-clause-deep c =
@@ -12,5 +12,5 @@ returns-clause-deep c =
     rw (← c.self.view_is) (
       known.0,
       known.1,
-      shallow (tables_of c.self.inside.tree) c.self.inside.plant c.self.inside.names c.self.inside.costs.items c.self.invariant known.0 known.1,
+      shallow (tables_of c.self.inside.tree) c.self.inside.network c.self.inside.names c.self.inside.costs.items c.self.invariant known.0 known.1,
     )

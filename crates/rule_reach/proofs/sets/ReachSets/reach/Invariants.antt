@@ -4,4 +4,4 @@ use Rattle.rule_reach.specs.steps.Rules.{IsReach}
 use Rattle.rule_reach.proofs.sets.ReachSets.reach.Given as goal
 
 abbrev pub invariant-loop-base : goal.invariant-loop-base
-invariant-loop-base l = IsReach l.checked.plant l.checked.rules (take l.base-index (run_chains l.checked.rules)) l.reach
+invariant-loop-base l = IsReach l.checked.network l.checked.rules (take l.base-index (run_chains l.checked.rules)) l.reach

@@ -12,23 +12,23 @@ use Rattle.rule_reach.proofs.takers.Told.alone.Goals as goal
 
 pub bounds-lookups-table : goal.bounds-lookups-table
 bounds-lookups-table c =
-    let long = AllZip-long (HasDeclared c.args.self.plant.now) c.args.self.tables.now c.args.lookups.now c.requires.declared in
+    let long = AllZip-long (HasDeclared c.args.self.network.now) c.args.self.tables.now c.args.lookups.now c.requires.declared in
     let under = ltb-true c.args.rule.table (length c.args.self.tables.now) (sym c.in-Some.ensures.lookup.0) in
     omega (arith, long, under)
 
 pub met_alone-requires-clause-declared : goal.met_alone-requires-clause-declared
 met_alone-requires-clause-declared c =
-    let plant = c.args.self.plant.now in
+    let network = c.args.self.network.now in
     let tables = c.args.self.tables.now in
     let lookups = c.args.lookups.now in
     let table = c.args.rule.table in
-    let long = AllZip-long (HasDeclared plant) tables lookups c.requires.declared in
+    let long = AllZip-long (HasDeclared network) tables lookups c.requires.declared in
     let under = ltb-true table (length tables) (sym c.in-Some.ensures.lookup.0) in
     let inside : table < length lookups = omega (arith, long, under) in
     let at = slice_get_read tables (length tables) table c.in-Some.names.now refl under c.in-Some.ensures.lookup.1 in
     let there = slice_get_read lookups (length lookups) table c.index-lookups-table.result refl inside c.index-lookups-table.is in
-    subst (HasDeclared plant c.in-Some.names.now) c.index-lookups-table.is
-    (declared_at plant tables lookups table c.in-Some.names.now c.index-lookups-table.result c.requires.declared at there)
+    subst (HasDeclared network c.in-Some.names.now) c.index-lookups-table.is
+    (declared_at network tables lookups table c.in-Some.names.now c.index-lookups-table.result c.requires.declared at there)
 
 pub met_alone-requires-clause-types : goal.met_alone-requires-clause-types
 met_alone-requires-clause-types c =
@@ -37,7 +37,7 @@ met_alone-requires-clause-types c =
     let under = ltb-true c.args.rule.table (length tables) (sym c.in-Some.ensures.lookup.0) in
     let at = slice_get_read tables (length tables) c.args.rule.table names refl under c.in-Some.ensures.lookup.1 in
     types_fine names c.args.rule (map statement c.in-Some-statements_of.stmts.now)
-    (types_at c.args.self.plant.now tables c.args.rule.table names c.requires.fine at) (sym c.in-Some-statements_of.ensures)
+    (types_at c.args.self.network.now tables c.args.rule.table names c.requires.fine at) (sym c.in-Some-statements_of.ensures)
 
 pub met_alone-requires-clause-bounds : goal.met_alone-requires-clause-bounds
 met_alone-requires-clause-bounds c =
@@ -46,22 +46,22 @@ met_alone-requires-clause-bounds c =
     let under = ltb-true c.args.rule.table (length tables) (sym c.in-Some.ensures.lookup.0) in
     let at = slice_get_read tables (length tables) c.args.rule.table names refl under c.in-Some.ensures.lookup.1 in
     bounds_fine names c.args.rule (map statement c.in-Some-statements_of.stmts.now)
-    (bounds_at c.args.self.plant.now tables c.args.rule.table names c.requires.fine at) (sym c.in-Some-statements_of.ensures)
+    (bounds_at c.args.self.network.now tables c.args.rule.table names c.requires.fine at) (sym c.in-Some-statements_of.ensures)
 
 pub returns-clause-declared : goal.returns-clause-declared
 returns-clause-declared c =
-    let plant = c.args.self.plant.now in
+    let network = c.args.self.network.now in
     let tables = c.args.self.tables.now in
     let lookups = c.args.lookups.now in
     let table = c.args.rule.table in
     let names = c.in-Some.names.now in
     let old = c.index-lookups-table.result in
     let new = c.met_alone.new.lookups in
-    let long = AllZip-long (HasDeclared plant) tables lookups c.requires.declared in
+    let long = AllZip-long (HasDeclared network) tables lookups c.requires.declared in
     let under = ltb-true table (length tables) (sym c.in-Some.ensures.lookup.0) in
     let inside : table < length lookups = omega (arith, long, under) in
     let at = slice_get_read tables (length tables) table names refl under c.in-Some.ensures.lookup.1 in
     let there = slice_get_read lookups (length lookups) table old refl inside c.index-lookups-table.is in
-    let had = declared_at plant tables lookups table names old c.requires.declared at there in
-    on_ok_weaker c.met_alone.result (λ extends. zip_set (HasDeclared plant) tables lookups table names new c.requires.declared at
-    (declared_kept plant names old new (rw (← c.index-lookups-table.is) at extends) had)) c.met_alone.ensures.extends
+    let had = declared_at network tables lookups table names old c.requires.declared at there in
+    on_ok_weaker c.met_alone.result (λ extends. zip_set (HasDeclared network) tables lookups table names new c.requires.declared at
+    (declared_kept network names old new (rw (← c.index-lookups-table.is) at extends) had)) c.met_alone.ensures.extends

@@ -7,8 +7,8 @@ use Rattle.rule_reach.proofs.takers.Told.at_rule.Given as goal
 abbrev pub invariant-loop-base : goal.invariant-loop-base
 invariant-loop-base l = record {
   keeps : Keeps l.initial.diagrams l.diagrams;
-  come : Whether l.self.plant.now l.self.tables.now (take l.base-index (run_chains l.self.tables.now))
-      (comes_for l.self.plant.now l.self.tables.now l.rule l.number) l.come;
-  end : Whether l.self.plant.now l.self.tables.now (take l.base-index (run_chains l.self.tables.now))
-      (takes l.self.plant.now l.self.tables.now l.rule l.number) l.end;
+  come : Whether l.self.network.now l.self.tables.now (take l.base-index (run_chains l.self.tables.now))
+      (comes_for l.self.network.now l.self.tables.now l.rule l.number) l.come;
+  end : Whether l.self.network.now l.self.tables.now (take l.base-index (run_chains l.self.tables.now))
+      (takes l.self.network.now l.self.tables.now l.rule l.number) l.end;
 }

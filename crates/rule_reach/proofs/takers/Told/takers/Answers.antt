@@ -13,7 +13,7 @@ not_true true e = sym e
 not_true false e = refl
 
 pub at_rule-requires-clause-sets : goal.at_rule-requires-clause-sets
-at_rule-requires-clause-sets c = all_kept c.args.self.plant.now c.args.self.tables.now c.args.diagrams.now c.loop-number.diagrams
+at_rule-requires-clause-sets c = all_kept c.args.self.network.now c.args.self.tables.now c.args.diagrams.now c.loop-number.diagrams
     (run_chains c.args.self.tables.now) c.args.self.bases.now c.loop-number.invariant.keeps c.requires.sets
 
 pub returns-in_err-at-clause-keeps : goal.returns-in_err-at-clause-keeps
@@ -26,20 +26,20 @@ returns-in_err-push-clause-keeps c =
 
 pub loop-number-preserved : goal.loop-number-preserved
 loop-number-preserved c =
-    let plant = c.args.self.plant.now in
+    let network = c.args.self.network.now in
     let tables = c.args.self.tables.now in
     let bases = run_chains tables in
     let k = c.loop-number.number in
     let so_far = c.loop-number.invariant.takers in
-    let test = takes plant tables c.args.rule k in
+    let test = takes network tables c.args.rule k in
     record {
       keeps = keeps_trans c.args.diagrams.now c.loop-number.diagrams c.at_rule.new.diagrams c.loop-number.invariant.keeps c.at_rule.ensures.keeps;
       within = omega arith;
       takers = elim c.if-at.branch [
-        | then-at+in_ok-push w ↦ a_taker plant tables bases c.args.rule k c.loop-number.takers.items c.if-at.takers.items c.loop-number.auto.number
-            (subst (Whether plant tables bases test) w.if-at.true c.in_ok-at.ensures.end) (rw w.takers-is w.in_ok-push.ensures.items) so_far
-        | else-at w ↦ rw w.takers-is (not_a_taker plant tables bases c.args.rule k c.loop-number.takers.items
-            (subst (Whether plant tables bases test) w.if-at.false c.in_ok-at.ensures.end) so_far)
+        | then-at+in_ok-push w ↦ a_taker network tables bases c.args.rule k c.loop-number.takers.items c.if-at.takers.items c.loop-number.auto.number
+            (subst (Whether network tables bases test) w.if-at.true c.in_ok-at.ensures.end) (rw w.takers-is w.in_ok-push.ensures.items) so_far
+        | else-at w ↦ rw w.takers-is (not_a_taker network tables bases c.args.rule k c.loop-number.takers.items
+            (subst (Whether network tables bases test) w.if-at.false c.in_ok-at.ensures.end) so_far)
       ];
     }
 
@@ -52,15 +52,15 @@ returns-clause-keeps c = elim c.loop-number-test.branch [
 
 pub returns-clause-takers : goal.returns-clause-takers
 returns-clause-takers c =
-    let plant = c.args.self.plant.now in
+    let network = c.args.self.network.now in
     let tables = c.args.self.tables.now in
     let bases = run_chains tables in
     let k = c.loop-number.number in
     elim c.loop-number-test.branch [
-      | else-loop-number-test w ↦ takers_all plant tables bases c.args.rule k c.loop-number.takers.items w.loop-number-test.false
+      | else-loop-number-test w ↦ takers_all network tables bases c.args.rule k c.loop-number.takers.items w.loop-number-test.false
           c.loop-number.invariant.within c.loop-number.invariant.takers
-      | then-loop-number-test+in_ok-at+then-not-at w ↦ none_left plant tables bases c.args.rule k c.loop-number.takers.items c.loop-number.auto.number
+      | then-loop-number-test+in_ok-at+then-not-at w ↦ none_left network tables bases c.args.rule k c.loop-number.takers.items c.loop-number.auto.number
           w.loop-number-test.true
-          (subst (Whether plant tables bases (comes_for plant tables c.args.rule k)) (not_true w.in_ok-at.at.come w.if-not-at.true) w.in_ok-at.ensures.come)
+          (subst (Whether network tables bases (comes_for network tables c.args.rule k)) (not_true w.in_ok-at.at.come w.if-not-at.true) w.in_ok-at.ensures.come)
           c.loop-number.invariant.takers
     ]

@@ -8,5 +8,5 @@ abbrev pub invariant-loop-number : goal.invariant-loop-number
 invariant-loop-number l = record {
   keeps : Keeps l.initial.diagrams l.diagrams;
   within : l.number ≤ max 1 l.rule.rule;
-  takers : TakersTo l.self.plant.now l.self.tables.now (run_chains l.self.tables.now) l.rule l.number l.takers.items;
+  takers : TakersTo l.self.network.now l.self.tables.now (run_chains l.self.tables.now) l.rule l.number l.takers.items;
 }

@@ -4,7 +4,7 @@ use Rattle.rule_reach.proofs.Made.{all_kept}
 use Rattle.rule_reach.proofs.takers.Told.unmet.Goals as goal
 
 pub at_rule-requires-clause-sets : goal.at_rule-requires-clause-sets
-at_rule-requires-clause-sets c = all_kept c.args.self.plant.now c.args.self.tables.now c.args.diagrams.now c.alone.new.diagrams
+at_rule-requires-clause-sets c = all_kept c.args.self.network.now c.args.self.tables.now c.args.diagrams.now c.alone.new.diagrams
     (run_chains c.args.self.tables.now) c.args.self.bases.now c.alone.ensures.keeps c.requires.sets
 
 pub returns-in_err-first-clause-keeps : goal.returns-in_err-first-clause-keeps
@@ -12,7 +12,7 @@ returns-in_err-first-clause-keeps c =
     keeps_trans c.args.diagrams.now c.alone.new.diagrams c.at_rule.new.diagrams c.alone.ensures.keeps c.at_rule.ensures.keeps
 
 pub takers-requires-clause-sets : goal.takers-requires-clause-sets
-takers-requires-clause-sets c = all_kept c.args.self.plant.now c.args.self.tables.now c.args.diagrams.now c.at_rule.new.diagrams
+takers-requires-clause-sets c = all_kept c.args.self.network.now c.args.self.tables.now c.args.diagrams.now c.at_rule.new.diagrams
     (run_chains c.args.self.tables.now) c.args.self.bases.now
     (keeps_trans c.args.diagrams.now c.alone.new.diagrams c.at_rule.new.diagrams c.alone.ensures.keeps c.at_rule.ensures.keeps) c.requires.sets
 

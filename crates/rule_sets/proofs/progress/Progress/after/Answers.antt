@@ -11,7 +11,7 @@ use Rattle.rule_sets.proofs.progress.Progress.after.Goals as goal
 
 pub statement_cases-requires-clause-declared : goal.statement_cases-requires-clause-declared
 statement_cases-requires-clause-declared c =
-    declared_kept c.args.place.setting.plant.now c.args.place.setting.names.now c.args.lookups.now c.loop-state.lookups
+    declared_kept c.args.place.setting.network.now c.args.place.setting.names.now c.args.lookups.now c.loop-state.lookups
     c.loop-state.invariant.extends c.requires.declared
 
 pub sorted-requires-clause-set : goal.sorted-requires-clause-set
@@ -42,7 +42,7 @@ loop-state-preserved c =
     let i = c.loop-state.state-index in
     let all = c.deref-state-items.result.now in
     let place = c.args.place in
-    let effect = statement_effect (scope_of place.setting.plant.now place.setting.names.now) place.position (statement place.stmt.now) in
+    let effect = statement_effect (scope_of place.setting.network.now place.setting.names.now) place.position (statement place.stmt.now) in
     let x = get_or all i any_written in
     let s = comes_next _ _ _ _ _ _ _ all i any_written c.loop-state-test.true c.loop-state.invariant.comes in
     record {

@@ -8,7 +8,7 @@ use Rattle.rule_sets.proofs.progress.Progress.after.Given as goal
 -- with the cases that are left
 abbrev pub invariant-loop-state : goal.invariant-loop-state
 invariant-loop-state l = record {
-  comes : Comes l.fn.diagrams l.diagrams l.place.reader l.place.last (statement_effect (scope_of l.place.setting.plant.now l.place.setting.names.now)
+  comes : Comes l.fn.diagrams l.diagrams l.place.reader l.place.last (statement_effect (scope_of l.place.setting.network.now l.place.setting.names.now)
       l.place.position (statement l.place.stmt.now)) l.fn.self l.next (drop l.state-index l.state-items);
   extends : Extends l.fn.lookups l.lookups;
 }

@@ -9,5 +9,5 @@ use Rattle.rule_values.proofs.contradictions.TableHasMaps.contradicts.Goals as g
 
 pub returns : goal.returns
 returns c = told c.any_contradicts.result
-    (ap (λ xs. list_any (map_contradicts c.args.plant.now) (flat_map item_maps (map item_tree xs))) c.deref.ensures.value)
+    (ap (λ xs. list_any (map_contradicts c.args.network.now) (flat_map item_maps (map item_tree xs))) c.deref.ensures.value)
     c.any_contradicts.ensures

@@ -1,6 +1,6 @@
 use Rattle.box_file.proofs.Names.{ap, first_value, map, route_entry, ◌∙◌}
 use Rattle.box_file.proofs.PlantLaws.{route_found_index}
-use Rattle.box_file.proofs.plant.Plant.route.Goals as goal
+use Rattle.box_file.proofs.network.Plant.route.Goals as goal
 
 pub returns-clause-index : goal.returns-clause-index
 returns-clause-index c =

@@ -1,5 +1,5 @@
 use Rattle.box_file.proofs.Names.{interface_of, map, take, ◌≡◌}
-use Rattle.box_file.proofs.plant.indexes_of.Given as goal
+use Rattle.box_file.proofs.network.indexes_of.Given as goal
 
 abbrev pub invariant-loop-interface : goal.invariant-loop-interface
 invariant-loop-interface l =

@@ -1,7 +1,7 @@
 use Rattle.box_file.proofs.Names.{append-nil, interface_tree, line_tree, map, map_push, route_entry, route_of_line, sym}
 use Rattle.box_file.proofs.ListLaws.{IsAt, taken_if}
-use Rattle.box_file.proofs.plant.routes.Goals as goal
-use Rattle.box_file.proofs.plant.routes.Goals.{in-Some+in_ok-push, in_default}
+use Rattle.box_file.proofs.network.routes.Goals as goal
+use Rattle.box_file.proofs.network.routes.Goals.{in-Some+in_ok-push, in_default}
 
 pub loop-line-preserved : goal.loop-line-preserved
 loop-line-preserved c =

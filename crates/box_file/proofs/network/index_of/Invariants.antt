@@ -1,5 +1,5 @@
 use Rattle.box_file.proofs.Names.{index_of, interface_tree, length, map, ◌≡◌}
-use Rattle.box_file.proofs.plant.index_of.Given as goal
+use Rattle.box_file.proofs.network.index_of.Given as goal
 
 abbrev pub invariant-loop-rest : goal.invariant-loop-rest
 invariant-loop-rest l = index_of (map interface_tree l.rest) l.name ≡ index_of (map interface_tree l.lines) l.name

@@ -1,6 +1,6 @@
 use Rattle.box_file.proofs.Names.{line_tree, map, refl}
 use Rattle.box_file.proofs.PlantLaws.{each_indexed, each_route_indexed, entry_is_index}
-use Rattle.box_file.proofs.plant.plant_of.Goals as goal
+use Rattle.box_file.proofs.network.plant_of.Goals as goal
 
 pub limits-idle-requires : goal.limits-idle-requires
 limits-idle-requires c = rw (c.deref-6.ensures.value, c.in_ok-sorted.ensures.idles_are) c.requires.range

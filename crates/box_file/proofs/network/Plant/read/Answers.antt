@@ -2,7 +2,7 @@ use Rattle.std.proofs.Common.{arith}
 use Rattle.box_file.proofs.Names.{inl, inr, line_tree, map, refl, sym}
 use Rattle.box_file.proofs.LineLaws.{lines_found}
 use Rattle.box_file.proofs.BoxLaws.{none_read}
-use Rattle.box_file.proofs.plant.Plant.read.Goals as goal
+use Rattle.box_file.proofs.network.Plant.read.Goals as goal
 
 pub returns-in_default-clause-refused : goal.returns-in_default-clause-refused
 returns-in_default-clause-refused c = inl (λ ls r. none_read c.args.text.now ls (sym (rw c.in_default.is at c.in_ok-lines.ensures)) r, refl)

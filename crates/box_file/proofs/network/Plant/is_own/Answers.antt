@@ -1,7 +1,7 @@
 use Rattle.std.proofs.Common.{arith}
 use Rattle.box_file.proofs.ListLaws.{some-found}
 use Rattle.box_file.proofs.PlantLaws.{some-map}
-use Rattle.box_file.proofs.plant.Plant.is_own.Goals as goal
+use Rattle.box_file.proofs.network.Plant.is_own.Goals as goal
 
 pub returns : goal.returns
 returns c =

@@ -157,9 +157,9 @@ fn plant_of(alloc: Global, lines: &[Line]) -> Result<Plant, AllocError>
     requires lines { each_is_line (map line_tree lines.now) }
     requires names { KnowsNames (map line_tree lines.now) }
     requires range { list_any is_out_of_range (idles_in (map line_tree lines.now)) ≡ false }
-    ensures value { IfOk result (λ plant. plant ≡ plant_of (map line_tree lines.now) plant.idle) }
-    ensures limits { IfOk result (λ plant. AreLimits
-        (idles_in (map line_tree lines.now)) plant.idle) }
+    ensures value { IfOk result (λ network. network ≡ plant_of (map line_tree lines.now) network.idle) }
+    ensures limits { IfOk result (λ network. AreLimits
+        (idles_in (map line_tree lines.now)) network.idle) }
 {
     let sorted = lines_by_kind(alloc, lines)?;
     let entering = entering(&sorted.interfaces, &sorted.defaults);
@@ -240,7 +240,7 @@ impl Plant {
     ///
     /// `Refused` with the first fault that applies; `Memory` where memory ran out.
     pub fn read(alloc: Global, text: &[u8]) -> Result<Plant, BoxError>
-        ensures ok { IfOk result (λ plant. IsBox text.now plant) }
+        ensures ok { IfOk result (λ network. IsBox text.now network) }
         ensures refused { IfErr result (λ error. IsBoxRefusal text.now error) }
     {
         let Some(lines) = lines(alloc, text)? else {
