@@ -19,7 +19,7 @@ CODES = "crates/explanations/src/table.rt"
 ADVICE = "crates/advice/src/unread.rt"
 SELECTORS = "crates/nft_tree/src/selector.rt"
 EXAMPLES, OF_EXAMPLES = (f"crates/semantics_examples/{it}" for it in ("src/examples.rt", "specs/Examples.antt"))
-FACTS, FACT_WORDS = "crates/fact_sets/src/fact_field.rt", "crates/match_words/src/words.rt"
+FACTS, FACT_WORDS = "crates/fact_sets/src/fact_field.rt", "crates/set_texts/src/words.rt"
 NUMBERS, FIT = "tools/fit/numbers.py", "docs/FIT.md"
 
 # selectors that examples name by the matches that are theirs alone

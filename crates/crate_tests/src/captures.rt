@@ -1,12 +1,13 @@
 //! Captures in the classic pcap format (draft-ietf-opsawg-pcap), read and written.
 ghost use Rattle.std.specs.Prelude.{◌≤◌, length};
 
+use crate::calls::Calls;
 use crate::support::{bytes, check_row, repeated};
+use devices::{Failing, Slow};
 use pcap_io::{Capture, CaptureError, CaptureFault, Counted, Leaving, Sink};
 use std::alloc::Global;
 use std::io::{Read, Write};
 use std::process::Abort;
-use test_devices::{Calls, Failing, Slow};
 
 /// Magic a1b2c3d4 (microseconds), version 2.4, LINKTYPE_RAW.
 const HEADER: &str = "d4c3b2a1020004000000000000000000ffff000065000000";

@@ -8,6 +8,8 @@
 #[cfg(test)]
 mod box_files;
 #[cfg(test)]
+mod calls;
+#[cfg(test)]
 mod captures;
 #[cfg(test)]
 mod compiled;

@@ -1,7 +1,9 @@
 //! Shared by the tests of runs: a packet and its records, engines and their steps, runs with slow
 //! and failing calls, and the line of a status.
+use crate::calls::Calls;
 use box_file::Plant;
 use conntrack::Tracker;
+use devices::{Failing, Slow};
 use engine::{RunFault, run};
 use nft_parser::parse;
 use pcap_io::{Counted, LinkType, Record};
@@ -14,7 +16,6 @@ use std::io::{Read, Write};
 use std::process::Abort;
 use std::random::RandomSource;
 use stepping::Engine;
-use test_devices::{Calls, Failing, Slow};
 
 pub const BOX: &[u8] = b"interface 2 lan 192.168.1.1/24
 interface 3 wan 203.0.113.1/24

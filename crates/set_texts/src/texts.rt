@@ -3,9 +3,9 @@ ghost use Rattle.std.specs.Prelude.{All, OnOk};
 ghost use Rattle.packet_sets.specs.Sets.{IsSet};
 ghost use Rattle.set_texts.specs.Indented.{AreIndented};
 
+use crate::line::{line_fields, put_line};
 use box_file::Plant;
 use itoa::Buffer;
-use match_words::{line_fields, put_line};
 use packet_sets::{Diagrams, Field, PacketSet};
 use set_lines::{Line, lines};
 use std::alloc::{AllocError, Global};

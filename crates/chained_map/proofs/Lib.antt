@@ -1,4 +1,0 @@
-pub mod ChainLaws
-pub mod LookupLaws
-pub mod MapLaws
-pub mod NodeLaws

@@ -1,5 +1,0 @@
-use Rattle.coming_laws.proofs.Spelling.{addresses_fit}
-use Rattle.coming_laws.proofs.spelled_addresses_fit.Goals as goal
-
-pub returns : goal.returns
-returns c = λ rules text spelled. addresses_fit rules text spelled

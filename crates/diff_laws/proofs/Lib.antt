@@ -1,0 +1,15 @@
+mod Events
+mod Paths
+mod Records
+mod Captures
+mod Each
+mod Fits
+mod Bytes
+mod Statements
+mod Running
+mod Translations
+mod Boxes
+mod Standing
+mod Histories
+mod Arriving
+mod Spelling

@@ -1,0 +1,5 @@
+pub mod Coming
+pub mod Same
+pub mod Runs
+pub mod Addresses
+pub mod AllSame

@@ -1,4 +1,0 @@
-mod Events
-mod Paths
-mod Records
-mod Captures

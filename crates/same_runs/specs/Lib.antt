@@ -1,3 +1,0 @@
-pub mod Coming
-pub mod Same
-pub mod Runs
