@@ -33,7 +33,7 @@ use Rattle.stepping.specs.Next.{AfterLookUp, HooksAndConfirm, LookUp, Path, entr
 use Rattle.diff_laws.specs.Coming as coming
 use Rattle.diff_laws.specs.Coming.{IsSeenBy, StandsBefore, stage_behind_routing}
 use Rattle.diff_laws.proofs.Events.{chains_blind}
-use Rattle.same_results.specs.Same.{GoesOn, SameAt, SameResult}
+use Rattle.rule_meaning.specs.Same.{GoesOn, SameAt, SameResult}
 use Rattle.diff_laws.specs.Same.{with_rules, without_events}
 
 -- ---- steps

@@ -23,7 +23,7 @@ use Rattle.stepping.specs.Next.{EntryOf, IsHistoryOf, Next, live_at_record, mome
 use Rattle.stepping.specs.Paths.{PathState}
 use Rattle.diff_laws.specs.Coming as coming
 use Rattle.diff_laws.specs.Coming.{AreBytes, HistoryOfBytes, IsSeenBy, StandsBefore}
-use Rattle.same_results.specs.Same.{SameAt}
+use Rattle.rule_meaning.specs.Same.{SameAt}
 use Rattle.diff_laws.specs.Same.{SameHistories, SameOutputs, SameStages, with_rules, without_events}
 use Rattle.diff_laws.proofs.Paths.{entry_alike, path_leads}
 

@@ -7,7 +7,7 @@ use Rattle.rule_meaning.specs.declared.stage.HookStage.{HookStage}
 use Rattle.fact_sets.specs.Boxes.{IsOfBox}
 use Rattle.rule_sets.specs.Interfaces.{interfaces_of}
 use Rattle.coming_sets.specs.Coming.{can_come_to}
-use Rattle.same_results.specs.Same.{SameAt}
+use Rattle.rule_meaning.specs.Same.{SameAt}
 
 -- at each stage, with all facts of the box with which packets can come there
 abbrev pub AllSame : PlantTree → (old new : List TableTree) → Type 0

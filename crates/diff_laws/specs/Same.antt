@@ -3,7 +3,7 @@ use Rattle.std.specs.Prelude.{◌≡◌, ℕ, Bool, List, [], length, map}
 use Rattle.nft_tree.specs.Tree.{TableTree}
 use Rattle.rule_meaning.specs.declared.facts.Facts.{Facts}
 use Rattle.rule_meaning.specs.declared.stage.HookStage.{HookStage}
-use Rattle.same_results.specs.Same.{SameAt}
+use Rattle.rule_meaning.specs.Same.{SameAt}
 use Rattle.history.specs.Setup.{Setup}
 use Rattle.history.specs.History.{Entry, capture_text, live_in}
 use Rattle.report.specs.Report.{totals}

@@ -5,7 +5,7 @@ use Rattle.box_file.specs.Box.{PlantTree}
 use Rattle.rule_meaning.specs.declared.facts.Facts.{Facts}
 use Rattle.rule_meaning.specs.declared.event.HookVerdict.{HookVerdict}
 use Rattle.rule_meaning.specs.declared.stage.HookStage.{HookStage}
-use Rattle.same_results.specs.Same.{SameAt}
+use Rattle.rule_meaning.specs.Same.{SameAt}
 use Rattle.ruleset_diff.specs.Differences.{Comes, DiffersAt}
 
 abbrev pub same_line : Text

@@ -4,7 +4,7 @@ use Rattle.nft_lexer.specs.TokenViews.{terminals}
 use Rattle.nft_lexer.specs.declared.token.Token.{Token}
 use Rattle.nft_parser.specs.declared.fault.TextFault.{TextFault}
 use Rattle.nft_parser.specs.declared.fault.TextFault.TheVariants.{Unsupported}
-use Rattle.ruleset_beginnings.specs.Beginnings.{BeginsRuleset, IsUnsupportedAt}
+use Rattle.nft_parser.specs.Beginnings.{BeginsRuleset, IsUnsupportedAt}
 use Rattle.fault_location.specs.declared.text_place.SyntaxPlace.{SyntaxPlace}
 use Rattle.fault_location.specs.declared.text_place.SyntaxPlace.TheVariants.{Brace, Part}
 

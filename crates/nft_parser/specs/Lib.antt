@@ -1,3 +1,4 @@
 pub mod Spells
 pub mod steps
 pub mod Codes
+pub mod Beginnings

@@ -4,4 +4,5 @@ pub mod Matches
 pub mod Statements
 pub mod Runs
 pub mod Hooks
+pub mod Same
 pub mod Laws

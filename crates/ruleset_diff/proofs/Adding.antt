@@ -12,7 +12,7 @@ use Rattle.fact_sets.specs.Facts.{CT_MARK, MARK, mark_number, facts_of}
 use Rattle.fact_sets.specs.declared.written.Written.{Written}
 use Rattle.packet_sets.specs.declared.fault.SetError.{SetError}
 use Rattle.stage_sets.specs.declared.outcome.StageOutcome.{StageOutcome}
-use Rattle.same_results.specs.Same.{GoesOn}
+use Rattle.rule_meaning.specs.Same.{GoesOn}
 use Rattle.fact_sets.specs.declared.written.MarkSource.{MarkSource}
 use Rattle.fact_sets.specs.declared.written.MarkSource.TheVariants as sources
 use Rattle.fact_sets.proofs.FieldNumbers.{value_less}

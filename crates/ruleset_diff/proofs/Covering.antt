@@ -10,7 +10,7 @@ use Rattle.rule_meaning.specs.declared.facts.Facts.{Facts}
 use Rattle.rule_meaning.specs.declared.stage.HookStage.{HookStage}
 use Rattle.rule_meaning.specs.declared.stage.HookStage.TheVariants as stages
 use Rattle.coming_sets.specs.Bases.{STAGES}
-use Rattle.same_results.specs.Same.{SameAt}
+use Rattle.rule_meaning.specs.Same.{SameAt}
 use Rattle.ruleset_diff.specs.declared.differences.Difference.{Difference}
 use Rattle.ruleset_diff.specs.Differences.{AreDifferences, Comes, IsAmong, IsDifference}
 use Rattle.ruleset_diff.specs.steps.Stages.{AddsStage, IsCovered}

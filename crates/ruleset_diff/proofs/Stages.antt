@@ -23,7 +23,7 @@ use Rattle.chain_ways.specs.BaseWays.{StageEnd, StageRunsAreWays, end_of_chains}
 use Rattle.coming_sets.specs.Coming.{can_come_to}
 use Rattle.stage_sets.specs.declared.outcome.StageOutcome.{StageOutcome}
 use Rattle.stage_sets.specs.Ends.{AreStageEnds, end_with}
-use Rattle.same_results.specs.Same.{GoesOn, SameAt, SameResult}
+use Rattle.rule_meaning.specs.Same.{GoesOn, SameAt, SameResult}
 use Rattle.ruleset_diff.specs.declared.differences.Difference.{Difference}
 use Rattle.ruleset_diff.specs.Differences.{Comes, DiffersAt, IsAmong, IsDifference}
 use Rattle.ruleset_diff.specs.steps.Pieces.{SameOutcome}

@@ -14,7 +14,7 @@ use Rattle.fact_sets.specs.Facts.{facts_of}
 use Rattle.rule_sets.specs.Interfaces.{interfaces_of}
 use Rattle.chain_ways.specs.BaseWays.{accepts}
 use Rattle.coming_sets.specs.Coming.{can_come_to}
-use Rattle.same_results.specs.Same.{SameAt, SameResult}
+use Rattle.rule_meaning.specs.Same.{SameAt, SameResult}
 use Rattle.ruleset_diff.specs.declared.differences.Difference.{Difference}
 
 -- what is assumed of the facts with which packets come: that each filter chain of a ruleset accepts them, or

@@ -2,7 +2,7 @@
 ghost use Rattle.std.specs.Prelude.{◌≡◌, ◌≢◌, ◌<◌, ◌+◌, ◌==◌, ◌&&◌, not, Bool, All, IfOk, OnOk};
 ghost use Rattle.std.specs.Bool.{OnTrue, OnFalse};
 ghost use Rattle.packet_sets.specs.Sets.{IsSet, Keeps, Means, holds};
-ghost use Rattle.same_results.specs.Same.{GoesOn};
+ghost use Rattle.rule_meaning.specs.Same.{GoesOn};
 ghost use Rattle.ruleset_diff.specs.steps.Pieces.{AddsPieces, ArePieces, has_connection, is_before_lookup, marks_differ, unlike, written_differ};
 ghost use Rattle.ruleset_diff.specs.steps.Pieces.{connection_mark_bit, mark_bit};
 ghost use Rattle.fact_sets.specs.declared.written.MarkSource.{MarkSource};

@@ -5,8 +5,7 @@ use capture_remarks::{Fullness, SecondRun, Texts, capture_location, remarks, tab
 use command_line::{DiffTask, ReplayPaths, Task};
 use engine::RulesFault;
 use fault_advice::explained;
-use fault_listing::all_faults;
-use fault_location::{Fault, SourcePaths, Sources};
+use fault_location::{Fault, SourcePaths, Sources, all_faults};
 use program::{RulesetRole, Status};
 use reach_report::UnmetReasons;
 use std::hash::RandomState;

@@ -1,13 +1,13 @@
 //! Whether a ruleset begins with the tokens before a place of a part: it does if it is read with an ending.
 ghost use Rattle.std.specs.Prelude.{◌≡◌, ◌≤◌, true, take, length, IfOk};
 ghost use Rattle.nft_lexer.specs.TokenViews.{terminals};
-ghost use Rattle.ruleset_beginnings.specs.Beginnings.{BeginsRuleset};
+ghost use Rattle.nft_parser.specs.Beginnings.{BeginsRuleset};
 
 use crate::braces::open_braces;
 use crate::part::Part;
 use crate::prefixes::{closing, missing_types};
 use nft_lexer::Token;
-use ruleset_beginnings::begins;
+use nft_parser::begins;
 use std::alloc::{AllocError, Global};
 
 impl Part {

@@ -1,10 +1,10 @@
 //! Parts of a ruleset that are read by themselves.
 ghost use Rattle.std.specs.Prelude.{IfSome};
-ghost use Rattle.ruleset_beginnings.specs.Beginnings.{IsUnsupportedAt};
+ghost use Rattle.nft_parser.specs.Beginnings.{IsUnsupportedAt};
 
 use nft_lexer::Token;
+use nft_parser::{joined, unsupported_word};
 use nft_rulesets::{Elements, EndedRule, Pairs, TableItem, ruleset};
-use ruleset_beginnings::{joined, unsupported_word};
 use std::alloc::{AllocError, Global};
 use token_reader::{Production, skip_ends};
 

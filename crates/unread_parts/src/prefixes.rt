@@ -5,7 +5,7 @@
 use crate::braces::{after_newlines, is, open_braces};
 use crate::part::{Part, PartKind};
 use nft_lexer::Token;
-use ruleset_beginnings::joined;
+use nft_parser::joined;
 use std::alloc::{AllocError, Global};
 
 /// What a set or a map may lack before its closing brace: nothing, or its types.

@@ -7,7 +7,7 @@ use Rattle.fact_sets.specs.declared.written.MarkSource.{MarkSource}
 use Rattle.fact_sets.specs.declared.written.Written.{Written}
 use Rattle.fact_sets.specs.Facts.{CT_MARK, MARK, TRACKING, mark_number, number_in}
 use Rattle.stage_sets.specs.declared.outcome.StageOutcome.{StageOutcome}
-use Rattle.same_results.specs.Same.{GoesOn}
+use Rattle.rule_meaning.specs.Same.{GoesOn}
 
 -- one of the sets has the packet
 abbrev pub some_has : DiagramsView → List PacketSet → (ℕ → Bool) → Bool

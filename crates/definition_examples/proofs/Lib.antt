@@ -1,0 +1,4 @@
+pub mod Spellings
+mod Interpreter
+mod HookInterpreter
+mod ComputedHooks

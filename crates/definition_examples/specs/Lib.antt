@@ -1,0 +1,4 @@
+pub mod GrammarExamples
+pub mod SemanticsExamples
+pub mod Fixtures
+pub mod Expected

@@ -1,5 +1,0 @@
-use Rattle.std.proofs.Common.{◌-◌}
-use Rattle.fault_listing.proofs.node_search.NodeSearch.+search.Given as goal
-
-abbrev pub decreases-search : goal.decreases-search
-decreases-search l = l.end - l.start

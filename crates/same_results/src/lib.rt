@@ -1,2 +1,0 @@
-//! When two rulesets do the same with a packet in a stage of a hook.
-#![tactic(auto)]

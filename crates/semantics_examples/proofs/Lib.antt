@@ -1,3 +1,0 @@
-mod Interpreter
-mod HookInterpreter
-mod ComputedHooks

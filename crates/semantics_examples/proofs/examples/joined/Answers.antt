@@ -1,9 +1,0 @@
-use Rattle.std.proofs.Common.{refl}
-use Rattle.semantics_examples.proofs.ComputedHooks.{forwards}
-use Rattle.semantics_examples.proofs.examples.joined.Goals as goal
-
-pub returns-clause-among : goal.returns-clause-among
-returns-clause-among c = (forwards _ _ _ refl, forwards _ _ _ refl)
-
-pub returns-clause-not_among : goal.returns-clause-not_among
-returns-clause-not_among c = (forwards _ _ _ refl, forwards _ _ _ refl, forwards _ _ _ refl)

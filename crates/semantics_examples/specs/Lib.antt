@@ -1,3 +1,0 @@
-pub mod Fixtures
-pub mod Expected
-pub mod Examples
