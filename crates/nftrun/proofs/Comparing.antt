@@ -14,8 +14,8 @@ use Rattle.program.specs.Diffing.{text_of}
 use Rattle.program.specs.declared.diffing.DiffInputs.{DiffInputs}
 use Rattle.program.specs.declared.diffing.RulesetRole.TheVariants.{Filter, New, Old}
 use Rattle.program.specs.declared.fault.DiffFault.{DiffFault}
-use Rattle.system_host.specs.steps.Analyses.{IsChecked}
-use Rattle.system_host.specs.steps.Comparisons.{AreAccepted, IsRefused, fault_in, fault_of}
+use Rattle.nftrun.specs.steps.Analyses.{IsChecked}
+use Rattle.nftrun.specs.steps.Comparisons.{AreAccepted, IsRefused, fault_in, fault_of}
 
 abbrev pub accepted_by : (rules box : Text) (checked : CheckedTree) → IsChecked rules box checked → Accepted rules box
 accepted_by rules box checked is = record {

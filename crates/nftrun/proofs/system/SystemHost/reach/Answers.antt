@@ -9,8 +9,8 @@ use Rattle.engine.specs.declared.fault.RunFault.TheVariants.{Box, Capture, Devic
 use Rattle.program.specs.Status.{fault_of_kind}
 use Rattle.program.specs.declared.fault.ReachFault.{ReachFault}
 use Rattle.program.specs.declared.fault.ReachFault.TheVariants.{Fault, TooLarge}
-use Rattle.system_host.specs.steps.Analyses.{Answers, Unanswered}
-use Rattle.system_host.proofs.system.SystemHost.reach.Goals as goal
+use Rattle.nftrun.specs.steps.Analyses.{Answers, Unanswered}
+use Rattle.nftrun.proofs.system.SystemHost.reach.Goals as goal
 
 unanswered : (rules box : Text) (fault : ReachFault) → Unanswered rules box fault → Answers rules box (Err fault)
 unanswered rules box TooLarge is = is

@@ -1,7 +1,7 @@
 //! Where a run writes.
 ghost use Rattle.std.specs.Io.{WritesAtMost};
 ghost use Rattle.std.specs.Io.KnownBytes.{WriteAppends, Keeps};
-ghost use Rattle.system_host.specs.steps.Promised.{held_by};
+ghost use Rattle.nftrun.specs.steps.Promised.{held_by};
 
 use std::io;
 use std::io::Write;

@@ -4,10 +4,10 @@ use Rattle.devices.specs.declared.counted.Counted.{Counted}
 use Rattle.engine.specs.Judged.{Judged, JudgeRefuses}
 use Rattle.program.specs.Calls.{Call, run, judge, reach, diff}
 use Rattle.progress.specs.Outputs.{Device, UsesDevices, device}
-use Rattle.system_host.specs.declared.destination.Destination.{Destination}
-use Rattle.system_host.specs.declared.destination.Destination.TheVariants.{File, Nothing}
-use Rattle.system_host.specs.steps.Analyses.{Answers}
-use Rattle.system_host.specs.steps.Comparisons.{Compared}
+use Rattle.nftrun.specs.declared.destination.Destination.{Destination}
+use Rattle.nftrun.specs.declared.destination.Destination.TheVariants.{File, Nothing}
+use Rattle.nftrun.specs.steps.Analyses.{Answers}
+use Rattle.nftrun.specs.steps.Comparisons.{Compared}
 
 -- what a file holds; of what is lost nothing is known
 abbrev pub held_by : {F : Type 0} → (F → Option (List ℕ)) → Destination F → Option (List ℕ)

@@ -1,6 +1,6 @@
 -- Whichever way the run went, the files are those that it left, and the engine guarantees what it did.
-use Rattle.system_host.proofs.system.SystemHost.run.Goals as goal
-use Rattle.system_host.proofs.system.SystemHost.run.Goals.{else-is_closed, in-None, in-Some, then-is_closed}
+use Rattle.nftrun.proofs.system.SystemHost.run.Goals as goal
+use Rattle.nftrun.proofs.system.SystemHost.run.Goals.{else-is_closed, in-None, in-Some, then-is_closed}
 
 pub returns : goal.returns
 returns g c =

@@ -3,8 +3,8 @@ use Rattle.rule_check.specs.Checked.{CheckedTree}
 use Rattle.engine.specs.Meaning.{Accepted}
 use Rattle.rule_reach.specs.declared.answers.ReachError.{ReachError}
 use Rattle.rule_reach.specs.declared.answers.ReachError.TheVariants as errors
-use Rattle.system_host.specs.steps.Analyses.{IsChecked, Unanswered, fault_of}
-use Rattle.system_host.proofs.analysis.analyze.Goals as goal
+use Rattle.nftrun.specs.steps.Analyses.{IsChecked, Unanswered, fault_of}
+use Rattle.nftrun.proofs.analysis.analyze.Goals as goal
 
 abbrev accepted_by : (rules box : Text) (checked : CheckedTree) → IsChecked rules box checked → Accepted rules box
 accepted_by rules box checked is = record {

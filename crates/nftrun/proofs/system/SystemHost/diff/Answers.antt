@@ -8,8 +8,8 @@ use Rattle.program.specs.Status.{fault_of_kind}
 use Rattle.program.specs.declared.diffing.DiffInputs.{DiffInputs}
 use Rattle.program.specs.declared.fault.DiffFault.{DiffFault}
 use Rattle.program.specs.declared.fault.DiffFault.TheVariants.{Fault, Rules, TooLarge}
-use Rattle.system_host.specs.steps.Comparisons.{AreAccepted, Compared, IsRefused}
-use Rattle.system_host.proofs.system.SystemHost.diff.Goals as goal
+use Rattle.nftrun.specs.steps.Comparisons.{AreAccepted, Compared, IsRefused}
+use Rattle.nftrun.proofs.system.SystemHost.diff.Goals as goal
 
 refused : (i : DiffInputs) (fault : DiffFault) → IsRefused i fault → Compared i (Err fault)
 refused i TooLarge is = is

@@ -7,7 +7,7 @@ use Rattle.nft_tree.specs.TreeViews.{tables_of}
 use Rattle.rule_check.specs.Checked.{IsCheckRefusal}
 use Rattle.rule_check.specs.declared.fault.CheckError.{CheckError}
 use Rattle.rule_check.specs.declared.fault.CheckError.TheVariants as checks
-use Rattle.system_host.proofs.analysis.checked.Goals as goal
+use Rattle.nftrun.proofs.analysis.checked.Goals as goal
 
 -- a ruleset that is refused on its box is a fault of the two texts
 of_texts : (rules box : List ℕ) (texts : Spelled rules box) (error : CheckError)

@@ -3,8 +3,8 @@ use Rattle.std.proofs.Common.{ap}
 use Rattle.std.proofs.lemmas.Result.{err_from_is_err_and}
 use Rattle.box_file.proofs.BoxLaws.{one_plant}
 use Rattle.program.specs.Diffing.{text_of}
-use Rattle.system_host.proofs.Comparing.{accepted_by, all_accepted, filter_refused, new_refused, told, untold}
-use Rattle.system_host.proofs.comparison.compare.Goals as goal
+use Rattle.nftrun.proofs.Comparing.{accepted_by, all_accepted, filter_refused, new_refused, told, untold}
+use Rattle.nftrun.proofs.comparison.compare.Goals as goal
 
 pub returns-in_err-new-clause-refused : goal.returns-in_err-new-clause-refused
 returns-in_err-new-clause-refused c =

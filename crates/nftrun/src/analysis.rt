@@ -1,7 +1,7 @@
 //! What can be met of a ruleset on a box.
 ghost use Rattle.std.specs.Prelude.{◌≡◌, IfErr, IfOk};
 ghost use Rattle.engine.specs.Judged.{JudgeRefuses};
-ghost use Rattle.system_host.specs.steps.Analyses.{IsChecked, Tells, Unanswered, fault_of};
+ghost use Rattle.nftrun.specs.steps.Analyses.{IsChecked, Tells, Unanswered, fault_of};
 
 use box_file::Plant;
 use engine::RunFault;

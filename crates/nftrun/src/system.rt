@@ -1,6 +1,6 @@
 //! The host that makes the system calls: files, outputs, and the engine over them.
 ghost use Rattle.progress.specs.Outputs.{capture_bytes};
-ghost use Rattle.system_host.specs.steps.Promised.{IsGuaranteed, held_by};
+ghost use Rattle.nftrun.specs.steps.Promised.{IsGuaranteed, held_by};
 
 use crate::analysis::analyze;
 use crate::closed_pipe::{PipeWriter, is_closed_pipe};

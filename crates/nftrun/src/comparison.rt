@@ -1,9 +1,9 @@
 //! What two rulesets do differently on a box.
 ghost use Rattle.std.specs.Prelude.{◌≡◌, IfErr, IfOk, IfSome};
 ghost use Rattle.chain_sets.specs.declared.fault.WalkError.{WalkError};
-ghost use Rattle.system_host.specs.steps.Analyses.{IsChecked};
-ghost use Rattle.system_host.specs.steps.Comparisons as comparisons;
-ghost use Rattle.system_host.specs.steps.Comparisons.{AreAccepted, IsRefused, RefusedIn};
+ghost use Rattle.nftrun.specs.steps.Analyses.{IsChecked};
+ghost use Rattle.nftrun.specs.steps.Comparisons as comparisons;
+ghost use Rattle.nftrun.specs.steps.Comparisons.{AreAccepted, IsRefused, RefusedIn};
 
 use crate::analysis::{NODES, checked};
 use chain_sets::WalkError;
