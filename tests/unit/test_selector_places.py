@@ -18,7 +18,8 @@ from words import KINDS, ORDERED, RANGED, WORDS, shortest
 CODES = "crates/explanations/src/table.rt"
 ADVICE = "crates/advice/src/unread.rt"
 SELECTORS = "crates/nft_tree/src/selector.rt"
-EXAMPLES, OF_EXAMPLES = (f"crates/definition_examples/{it}" for it in ("src/semantics.rt", "specs/SemanticsExamples.antt"))
+EXAMPLES = "crates/definition_examples/src/semantics.rt"
+OF_EXAMPLES = "crates/definition_examples/specs/SemanticsExamples.antt"
 FACTS, FACT_WORDS = "crates/fact_sets/src/fact_field.rt", "crates/set_texts/src/words.rt"
 NUMBERS, FIT = "tools/fit/numbers.py", "docs/FIT.md"
 
