@@ -4,7 +4,7 @@ ghost use Rattle.clap.specs.Words.{found_of, kind_of};
 ghost use Rattle.command_line.specs.CommandLine.{RequestsTask, is_well_formed};
 ghost use Rattle.command_line.specs.steps.Given.{Contradicts, GivesExplaining, GivesTask, value_at};
 
-use crate::program::{excluding_program, program};
+use crate::program::{ExplainFlags, program};
 use crate::tasks::{
     CheckPaths, CheckTask, DiffPaths, DiffTask, Explaining, ReachTask, ReplayPaths, ReplayTask,
     Task,
@@ -33,7 +33,7 @@ pub fn task<'a>(alloc: Global, words: &'a [&'a str]) -> Result<Task<'a>, Error>
     ensures refused { IfErr result (λ e. is_well_formed (map (λ w. w.now) words.entry.now) ≡ true
         → kind_of e ≡ ErrorKind.OutOfMemory) }
 {
-    let matches = program(alloc)?.try_get_matches_from(words)?;
+    let matches = program(alloc, ExplainFlags::Free)?.try_get_matches_from(words)?;
     let (name, given) = matches.subcommand().unwrap();
     match task_of(name, given) {
         Some(task) => Ok(task),
@@ -45,7 +45,7 @@ pub fn task<'a>(alloc: Global, words: &'a [&'a str]) -> Result<Task<'a>, Error>
 // a command holds where no argument excludes another, so these exclude each other in a command of
 // their own, which refuses the words.
 fn contradiction<'a>(alloc: Global, words: &'a [&'a str]) -> Error {
-    match excluding_program(alloc) {
+    match program(alloc, ExplainFlags::Excluding) {
         Ok(command) => match command.try_get_matches_from(words) {
             Ok(_) => Error::from(AllocError),
             Err(error) => error,
@@ -60,37 +60,34 @@ fn task_of<'a>(name: &str, given: &ArgMatches<'a>) -> Option<Task<'a>>
     ensures { MatchOption result (Contradicts name.now (found_of given.now))
         (GivesTask name.now (found_of given.now)) }
 {
-    if name == "check" {
-        return Some(Task::Check(CheckTask {
-            all: given.get_flag("all"),
-            nft: given.get_flag("nft"),
-            explaining: explaining_of(given)?,
-            texts: texts_of(given),
-        }));
-    }
-    if name == "reach" {
-        return Some(Task::Reach(ReachTask {
-            sets: given.get_flag("sets"),
-            explaining: explaining_of(given)?,
-            texts: texts_of(given),
-        }));
-    }
-    if name == "diff" {
-        return Some(Task::Diff(DiffTask {
-            explaining: explaining_of(given)?,
-            assumed: given.get_str("assume"),
-            paths: diff_paths_of(given),
-        }));
-    }
     if name == "explain" {
         return Some(Task::Explain(value_of(given, "code")));
     }
-    Some(Task::Run(ReplayTask {
-        trace: given.get_flag("trace"),
-        explaining: explaining_of(given)?,
-        report: given.get_str("report"),
-        paths: replay_paths_of(given),
-    }))
+    let explaining = explaining_of(given)?;
+    Some(match name {
+        "check" => Task::Check(CheckTask {
+            all: given.get_flag("all"),
+            nft: given.get_flag("nft"),
+            explaining,
+            texts: texts_of(given),
+        }),
+        "reach" => Task::Reach(ReachTask {
+            sets: given.get_flag("sets"),
+            explaining,
+            texts: texts_of(given),
+        }),
+        "diff" => Task::Diff(DiffTask {
+            explaining,
+            assumed: given.get_str("assume"),
+            paths: diff_paths_of(given),
+        }),
+        _ => Task::Run(ReplayTask {
+            trace: given.get_flag("trace"),
+            explaining,
+            report: given.get_str("report"),
+            paths: replay_paths_of(given),
+        }),
+    })
 }
 
 // The paths of a run.

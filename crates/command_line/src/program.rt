@@ -3,6 +3,7 @@ ghost use Rattle.std.specs.Prelude.{◌≡◌, IfOk, Some, false, fold};
 ghost use Rattle.clap.specs.Words.{app_of, new_app, rule_of};
 ghost use Rattle.clap.specs.declared.builder.command.Command.TheViews.{out-Command};
 ghost use Rattle.command_line.specs.Statuses.{Lists, statuses_of};
+ghost use Rattle.command_line.specs.declared.program.ExplainFlags.TheVariants.{Free};
 ghost use Rattle.command_line.specs.steps.Program.{app_for, flag_rule, path_rule, program_app, file_rule, rule_for, top_app, with_described};
 
 use clap::{Arg, ArgAction, Command};
@@ -179,6 +180,15 @@ pub(crate) enum Argument {
     File(&'static str, &'static str, &'static str),
 }
 
+/// How `--explain` and `--no-explain` stand to each other in a command.
+#[derive(Clone, Copy)]
+pub(crate) enum ExplainFlags {
+    /// Both may be given.
+    Free,
+    /// They exclude each other.
+    Excluding,
+}
+
 static SUBCOMMANDS: [Subcommand; 5] = [
     Subcommand {
         name: "run",
@@ -241,20 +251,11 @@ static SUBCOMMANDS: [Subcommand; 5] = [
     },
 ];
 
-/// The program's command.
-pub(crate) fn program<'a>(alloc: Global) -> Result<Command<'a>, AllocError>
-    ensures { IfOk result (λ c. app_of c ≡ program_app) }
+/// The program's command, in which `--explain` and `--no-explain` stand to each other like that.
+pub(crate) fn program<'a>(alloc: Global, flags: ExplainFlags) -> Result<Command<'a>, AllocError>
+    ensures { flags ≡ Free → IfOk result (λ c. app_of c ≡ program_app) }
 {
-    with_subcommands(alloc, top(alloc), &SUBCOMMANDS)
-}
-
-/// The program's command, of which `--explain` and `--no-explain` exclude each other.
-pub(crate) fn excluding_program<'a>(alloc: Global) -> Result<Command<'a>, AllocError> {
-    let mut command = top(alloc);
-    for subcommand in &SUBCOMMANDS {
-        command = command.subcommand(subcommand.excluding_command(alloc)?)?;
-    }
-    Ok(command)
+    with_subcommands(alloc, top(alloc), &SUBCOMMANDS, flags)
 }
 
 // Each subcommand has options of its own, so the help of the program only mentions them.
@@ -268,38 +269,29 @@ fn top<'a>(alloc: Global) -> Command<'a>
         .subcommand_required(true)
 }
 
-#[tactic(auto, using(std::proofs::lemmas::List::Sums::fold_more))]
 fn with_subcommands<'a>(
     alloc: Global,
     mut command: Command<'a>,
     subcommands: &[Subcommand],
+    flags: ExplainFlags,
 ) -> Result<Command<'a>, AllocError>
-    ensures { IfOk result (λ c.
+    ensures { flags ≡ Free → IfOk result (λ c.
         app_of c ≡ fold with_described (app_of command.entry) subcommands.now) }
 {
     for subcommand in subcommands {
-        command = command.subcommand(subcommand.command(alloc)?)?;
+        command = command.subcommand(subcommand.command(alloc, flags)?)?;
     }
     Ok(command)
 }
 
 impl Subcommand {
-    #[tactic(auto, using(std::proofs::lemmas::List::Sums::fold_more))]
-    fn command<'a>(&self, alloc: Global) -> Result<Command<'a>, AllocError>
-        ensures app { IfOk result (λ c. app_of c ≡ app_for self.now) }
+    fn command<'a>(&self, alloc: Global, flags: ExplainFlags) -> Result<Command<'a>, AllocError>
+        ensures app { flags ≡ Free → IfOk result (λ c. app_of c ≡ app_for self.now) }
         ensures local { IfOk result (λ c. (out-Command c).has_globals ≡ false) }
     {
         let mut command = self.bare_command(alloc);
         for argument in self.arguments {
-            command = command.arg(argument.arg(alloc))?;
-        }
-        Ok(command)
-    }
-
-    fn excluding_command<'a>(&self, alloc: Global) -> Result<Command<'a>, AllocError> {
-        let mut command = self.bare_command(alloc);
-        for argument in self.arguments {
-            command = command.arg(argument.excluding_arg(alloc)?)?;
+            command = command.arg(argument.arg(alloc, flags)?)?;
         }
         Ok(command)
     }
@@ -318,7 +310,19 @@ impl Subcommand {
 }
 
 impl Argument {
-    fn arg<'a>(&self, alloc: Global) -> Arg<'a>
+    fn arg<'a>(&self, alloc: Global, flags: ExplainFlags) -> Result<Arg<'a>, AllocError>
+        ensures rule { flags ≡ Free → IfOk result (λ arg. rule_of arg ≡ rule_for self.now) }
+        ensures local { IfOk result (λ arg. arg.global ≡ false) }
+    {
+        let arg = self.free_arg(alloc);
+        if let (Argument::Flag("no-explain", _), ExplainFlags::Excluding) = (self, flags) {
+            return arg.conflicts_with("explain");
+        }
+        Ok(arg)
+    }
+
+    // The argument, which excludes no other.
+    fn free_arg<'a>(&self, alloc: Global) -> Arg<'a>
         ensures rule { rule_of result ≡ rule_for self.now }
         ensures local { result.global ≡ false }
     {
@@ -326,16 +330,6 @@ impl Argument {
             Argument::Path(name, value_name, help) => path(alloc, name, value_name, help),
             Argument::Flag(name, help) => flag(alloc, name, help),
             Argument::File(name, value_name, help) => file(alloc, name, value_name, help),
-        }
-    }
-}
-
-impl Argument {
-    fn excluding_arg<'a>(&self, alloc: Global) -> Result<Arg<'a>, AllocError> {
-        let arg = self.arg(alloc);
-        match self {
-            Argument::Flag("no-explain", _) => arg.conflicts_with("explain"),
-            _ => Ok(arg),
         }
     }
 }
