@@ -1,6 +1,8 @@
 use Rattle.std.proofs.Common.{arith, subst, sym}
-use Rattle.set_lines.specs.steps.Parts.{AreWays}
-use Rattle.set_lines.proofs.LineLaws.{lines_first, lines_more}
+use Rattle.std.proofs.lemmas.List.{take_all}
+use Rattle.set_lines.specs.Lines.{number_in}
+use Rattle.set_lines.specs.steps.Parts.{AreLines, AreWays, ways_with}
+use Rattle.set_lines.proofs.LineLaws.{lines_first, lines_last, lines_more}
 use Rattle.set_lines.proofs.listing.+set_lines.Goals as goal
 
 pub loop-way-init : goal.loop-way-init
@@ -28,3 +30,14 @@ loop-way-preserved t c =
           c.in_ok-more.more c.add.new.self c.loop-way-test.true c.way-item.is are c.deref.ensures.value c.loop-way.invariant.lines c.in_ok-more.ensures.lines
           c.in_ok-add.ensures.lines c.in_ok-add.ensures.more;
     }
+
+pub returns-clause-lines : goal.returns-clause-lines
+returns-clause-lines t c =
+    let d = c.args.diagrams.now in
+    let field = c.in-Some.field.now in
+    let ways = rw c.in-Some-2.is at c.in_ok-ways.ensures in
+    let are : AreWays d c.args.set field c.deref-way-items.result.now =
+    subst (λ xs. AreWays d c.args.set field xs) (sym c.deref-way-items.ensures.value) ways in
+    lines_last d c.args.set field c.deref-way-items.result.now c.loop-way.found are
+    (subst (λ ws. AreLines d c.args.set (λ packet. ways_with ws (number_in field packet)) c.loop-way.found)
+    (take_all c.loop-way.way-index c.deref-way-items.result.now c.loop-way-test.false) c.loop-way.invariant.lines)
