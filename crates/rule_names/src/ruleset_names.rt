@@ -157,7 +157,7 @@ impl RulesetNames {
     {
         let mut tables = Vec::with_capacity(alloc, tree.tables.len())?;
         for (place, table) in tree.tables.iter().enumerate() {
-            tables.push(TableNames::new(alloc, table, &self.tables[place])?)?;
+            tables.push_reserved(TableNames::new(alloc, table, &self.tables[place])?);
         }
         Ok(tables)
     }
