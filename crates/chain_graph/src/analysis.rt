@@ -33,8 +33,8 @@ pub fn analyze(alloc: Global, nodes: &[Node]) -> Result<Option<GraphAnalysis>, A
     ensures { IfOk result (λ analysis. MatchOption analysis (HasCycle (Calls (graph_of nodes.now)))
         (λ j. IsAnalysisOf (graph_of nodes.now) j)) }
 {
-    let targets = all_targets(alloc, nodes)?;
-    match topological_sort(alloc, &targets)? {
+    let sorted = topological_sort(alloc, &all_targets(alloc, nodes)?)?;
+    match sorted {
         SortResult::Cycle => Ok(None),
         SortResult::Order(order) => {
             let costs = node_costs(alloc, nodes, &order)?;

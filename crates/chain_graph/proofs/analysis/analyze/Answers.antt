@@ -13,18 +13,18 @@ is_sort_result-as g h o p e f a = subst (λ x. IsSortResult x p) e (subst (IsSor
 
 pub topological_sort-requires : goal.topological_sort-requires
 topological_sort-requires c =
-    subst TargetsInRange (sym (ap rows_of c.deref.ensures.value ∙ c.in_ok-targets.ensures))
+    subst TargetsInRange (sym (ap rows_of c.deref.ensures.value ∙ c.in_ok-all_targets.ensures))
     (range-of (graph_of c.args.nodes.now) (length c.args.nodes.now) c.requires.range (sym (graph-long c.args.nodes.now)))
 
 pub returns-in-Cycle : goal.returns-in-Cycle
 returns-in-Cycle c =
-    grind (arith, cycle-to-calls, is_sort_result-as, c.deref.ensures.value, c.in_ok-targets.ensures, c.in-Cycle.is, c.in_ok-topological_sort.ensures)
+    grind (arith, cycle-to-calls, is_sort_result-as, c.deref.ensures.value, c.in_ok-all_targets.ensures, c.in-Cycle.is, c.in_ok-sorted.ensures)
 
-pub returns : goal.returns
-returns c =
+pub returns-in_ok-depths-in-Order : goal.returns-in_ok-depths-in-Order
+returns-in_ok-depths-in-Order c =
     let long = graph-long c.args.nodes.now in
-    let found = is_sort_result-as _ _ _ (Order c.in-Order.order) (ap rows_of c.deref.ensures.value ∙ c.in_ok-targets.ensures) c.in-Order.is
-    c.in_ok-topological_sort.ensures in
+    let found = is_sort_result-as _ _ _ (Order c.in-Order.order) (ap rows_of c.deref.ensures.value ∙ c.in_ok-all_targets.ensures) c.in-Order.is
+    c.in_ok-sorted.ensures in
     record {
       acyclic = λ k. found.1 (cycle-of-calls (graph_of c.args.nodes.now) k);
       order = found.0;
