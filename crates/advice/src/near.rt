@@ -28,7 +28,8 @@ pub fn nearest<'a>(
         if let Some(changes) = changes(alloc, word, other)?
             && changes < fewest
         {
-            (nearest, fewest) = (Some(other), changes);
+            nearest = Some(other);
+            fewest = changes;
         }
     }
     Ok(nearest)

@@ -82,6 +82,14 @@ struct Guess<'a> {
     question: &'static str,
 }
 
+impl<'a> Guess<'a> {
+    /// The word that may be meant.
+    fn nearest(self, alloc: Global) -> Result<Option<&'a str>, AllocError> {
+        let words = self.words.words(alloc)?;
+        nearest(alloc, self.written, &words)
+    }
+}
+
 /// What to do: a sentence, with a `{}` in each of its gaps.
 #[derive(Clone, Copy)]
 pub struct Advice<'a> {
@@ -104,12 +112,11 @@ impl<'a> Advice<'a> {
 
     /// Writes it on a line.
     pub fn put(self, alloc: Global, lines: &mut String) -> Result<(), AllocError> {
-        if let Some(guess) = self.guess {
-            let words = guess.words.words(alloc)?;
-            if let Some(near) = nearest(alloc, guess.written, &words)? {
-                let gaps = [Gap::Text(near), guess.words];
-                return put_filled(alloc, lines, guess.question, &gaps);
-            }
+        if let Some(guess) = self.guess
+            && let Some(near) = guess.nearest(alloc)?
+        {
+            let gaps = [Gap::Text(near), guess.words];
+            return put_filled(alloc, lines, guess.question, &gaps);
         }
         put_filled(alloc, lines, self.sentence, &self.gaps)
     }
@@ -139,7 +146,10 @@ fn put_filled(
 ) -> Result<(), AllocError> {
     let mut pieces = sentence.split("{}");
     lines.push_str(pieces.next().unwrap_or(""))?;
-    for (piece, gap) in pieces.zip(gaps) {
+    for gap in gaps {
+        let Some(piece) = pieces.next() else {
+            break;
+        };
         gap.put(alloc, lines)?;
         lines.push_str(piece)?;
     }

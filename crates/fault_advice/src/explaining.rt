@@ -52,7 +52,7 @@ impl<'a> Explaining<'a> {
     /// Writes the place at an offset of the ruleset.
     fn show(self, offset: usize, lines: &mut String) -> Result<(), AllocError> {
         let (paths, text) = (self.sources.paths, self.sources.rules);
-        show(self.alloc, lines, paths.rules, text, offset)
+        show(lines, paths.rules, text, offset)
     }
 
     /// Writes where what is no token begins, and what to do.
@@ -112,7 +112,7 @@ impl<'a> Explaining<'a> {
         let Some(line) = faulty_line(alloc, text, fault)? else {
             return Ok(());
         };
-        show(alloc, lines, self.sources.paths.network, text, line.start)?;
+        show(lines, self.sources.paths.network, text, line.start)?;
         put_advice_on_box(alloc, text, fault, line, lines)
     }
 }

@@ -1,5 +1,6 @@
 //! The table, the declaration and the rule around a place of a ruleset, also where that can't be
 //! read: by braces and ends of lines.
+use crate::part::utf8;
 use nft_lexer::{Punctuator, Token, TokenKind};
 use std::alloc::{AllocError, Global};
 
@@ -28,7 +29,9 @@ pub fn heads_around(
     tokens: &[Token<'_>],
     offset: usize,
 ) -> Result<String, AllocError> {
-    Scan::up_to(tokens, offset).described(alloc)
+    let mut line = String::new(alloc);
+    Scan::up_to(tokens, offset).describe(&mut line)?;
+    Ok(line)
 }
 
 /// The tokens around an offset of what stands in so many braces: in none a table, in one a
@@ -77,9 +80,7 @@ impl<'a> Scan<'a> {
     /// The word so many places behind a token; empty where no word stands there.
     fn word(self, first: usize, number: usize) -> &'a str {
         match self.tokens.get(first.saturating_add(number)) {
-            Some(token) if matches!(token.kind, TokenKind::Word) => {
-                str::from_utf8(token.text).unwrap_or("")
-            }
+            Some(token) if matches!(token.kind, TokenKind::Word) => utf8(token.text),
             _ => "",
         }
     }
@@ -143,21 +144,25 @@ impl<'a> Scan<'a> {
         }
     }
 
-    /// The heads of what has begun.
-    fn described(self, alloc: Global) -> Result<String, AllocError> {
-        let mut line = String::new(alloc);
+    /// Writes the heads of what has begun.
+    fn describe(self, line: &mut String) -> Result<(), AllocError> {
         let Some(table) = self.begun[0] else {
-            return Ok(line);
+            return Ok(());
         };
-        let (mut family, mut name, mut brace) = (self.word(table, 1), self.word(table, 2), 3);
-        if name.is_empty() {
-            (family, name, brace) = ("ip", family, 2);
+        let (first, second) = (self.word(table, 1), self.word(table, 2));
+        let brace = if second.is_empty() { 2 } else { 3 };
+        if self.word(table, 0) != "table" || first.is_empty() || !self.has_brace(table, brace) {
+            return Ok(());
         }
-        let is_named = self.word(table, 0) == "table" && !family.is_empty() && !name.is_empty();
-        if !is_named || !self.has_brace(table, brace) {
-            return Ok(line);
+        match second {
+            "" => write!(line, "table ip {first}")?,
+            name => write!(line, "table {first} {name}")?,
         }
-        write!(line, "table {family} {name}")?;
+        self.describe_within(line)
+    }
+
+    /// Writes the heads of what has begun in a table.
+    fn describe_within(self, line: &mut String) -> Result<(), AllocError> {
         if let Some(item) = self.begun[1]
             && !self.word(item, 0).is_empty()
             && !self.word(item, 1).is_empty()
@@ -167,6 +172,6 @@ impl<'a> Scan<'a> {
         if self.is_in_rule() {
             write!(line, ", rule {}", self.rules)?;
         }
-        Ok(line)
+        Ok(())
     }
 }

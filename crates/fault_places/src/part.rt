@@ -34,7 +34,12 @@ fn blank(text: &mut [u8]) {
 
 /// A part as text; empty where it isn't UTF-8.
 pub fn shown(text: &[u8], part: Span) -> &str {
-    str::from_utf8(bytes_of(text, part)).unwrap_or("")
+    utf8(bytes_of(text, part))
+}
+
+/// Bytes as text; empty where they aren't UTF-8.
+pub(crate) fn utf8(bytes: &[u8]) -> &str {
+    str::from_utf8(bytes).unwrap_or("")
 }
 
 /// The part from an offset to the end of a text.

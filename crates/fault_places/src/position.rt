@@ -2,7 +2,7 @@
 ghost use Rattle.std.specs.Prelude.{◌≡◌, ◌≤◌, ◌+◌, length};
 
 use crate::part::{Span, bytes_of};
-use std::alloc::{AllocError, Global};
+use std::alloc::AllocError;
 
 /// How many bytes of a line are shown on either side of a location.
 const MAX_SHOWN_BYTES: usize = 120;
@@ -28,49 +28,70 @@ pub fn position_at(text: &[u8], offset: usize) -> Position
     ensures lines { result.line ≤ offset + 1 }
     ensures columns { result.start + result.column ≡ offset + 1 }
 {
-    let (before, behind) = text.split_at(offset);
-    let last = before.iter().rposition(|byte| *byte == b'\n');
-    let start = match last {
-        Some(at) => at + 1,
-        None => 0,
-    };
-    let length = behind.iter().position(|byte| *byte == b'\n');
+    let (mut line, mut start) = (1, 0);
+    for at in 0..offset {
+        if text[at] == b'\n' {
+            line += 1;
+            start = at + 1;
+        }
+    }
     Position {
-        line: before.iter().filter(|byte| **byte == b'\n').count() + 1,
+        line,
         column: offset - start + 1,
         start,
-        end: offset + length.unwrap_or(behind.len()),
+        end: end_of_line(text, offset),
     }
 }
 
+/// The offset at which the line around this one ends, without its line end.
+fn end_of_line(text: &[u8], offset: usize) -> usize
+    requires { offset ≤ length text.now }
+    ensures behind { offset ≤ result }
+    ensures within { result ≤ length text.now }
+{
+    for at in offset..text.len() {
+        if text[at] == b'\n' {
+            return at;
+        }
+    }
+    text.len()
+}
+
 /// Writes the line and column of an offset, and the line with a caret under the column.
-pub fn show(
-    alloc: Global,
-    lines: &mut String,
-    path: &str,
-    text: &[u8],
-    offset: usize,
-) -> Result<(), AllocError> {
+///
+/// # Errors
+/// `AllocError` for want of memory.
+pub fn show(lines: &mut String, path: &str, text: &[u8], offset: usize) -> Result<(), AllocError> {
     if offset > text.len() {
         return Ok(());
     }
     let at = position_at(text, offset);
-    writeln!(lines, "{path}:{}:{}", at.line, at.column)?;
-    let start = at.start.max(offset.saturating_sub(MAX_SHOWN_BYTES));
-    let end = at.end.min(offset.saturating_add(MAX_SHOWN_BYTES));
-    let before = bytes_of(text, Span { start, end: offset });
-    if let Ok(line) = str::from_utf8(bytes_of(text, Span { start, end })) {
-        writeln!(lines, "{line}\n{}", caret(alloc, before)?.as_str())?;
-    }
-    Ok(())
+    lines.push_str(path)?;
+    writeln!(lines, ":{}:{}", at.line, at.column)?;
+    show_line(lines, text, at, offset)
 }
 
-/// A caret under the byte that follows these; tabs stay, so that it is aligned.
-fn caret(alloc: Global, before: &[u8]) -> Result<String, AllocError> {
-    let mut line = String::new(alloc);
+/// Writes what is around an offset on its line, if that is UTF-8, and a caret under it.
+fn show_line(
+    lines: &mut String,
+    text: &[u8],
+    at: Position,
+    offset: usize,
+) -> Result<(), AllocError> {
+    let start = at.start.max(offset.saturating_sub(MAX_SHOWN_BYTES));
+    let end = at.end.min(offset.saturating_add(MAX_SHOWN_BYTES));
+    let Ok(line) = str::from_utf8(bytes_of(text, Span { start, end })) else {
+        return Ok(());
+    };
+    lines.push_str(line)?;
+    lines.push('\n')?;
+    put_caret(lines, bytes_of(text, Span { start, end: offset }))
+}
+
+/// Writes a line with a caret under the byte that follows these; tabs stay, so that it is aligned.
+fn put_caret(lines: &mut String, before: &[u8]) -> Result<(), AllocError> {
     for byte in before {
-        line.push(if *byte == b'\t' { '\t' } else { ' ' })?;
+        lines.push(if *byte == b'\t' { '\t' } else { ' ' })?;
     }
-    line.push('^')?;
-    Ok(line)
+    lines.push_str("^\n")
 }

@@ -1,5 +1,5 @@
 //! Words of a part of a ruleset.
-use crate::part::count_before;
+use crate::part::{count_before, utf8};
 use nft_lexer::{Token, TokenKind};
 use std::alloc::{AllocError, Global};
 
@@ -27,7 +27,7 @@ impl<'a> Words<'a> {
     /// The word of a number, from 0; empty where there is none.
     pub fn get(&self, number: usize) -> &'a str {
         match self.tokens.get(number) {
-            Some(token) => str::from_utf8(token.text).unwrap_or(""),
+            Some(token) => utf8(token.text),
             None => "",
         }
     }

@@ -51,7 +51,8 @@ pub fn unclosed_brace(
     alloc: Global,
     tokens: &[Token<'_>],
 ) -> Result<Option<OpenBrace>, AllocError> {
-    let (mut open, mut seen) = (Vec::new(alloc), 0);
+    let mut open = Vec::new(alloc);
+    let mut seen = 0;
     for (at, token) in tokens.iter().enumerate() {
         if matches!(token.kind, TokenKind::NewLine) {
             continue;
@@ -68,7 +69,10 @@ pub fn unclosed_brace(
             _ => {}
         }
     }
-    Ok(open.pop().map(|brace| OpenBrace { brace, seen }))
+    match open.pop() {
+        Some(brace) => Ok(Some(OpenBrace { brace, seen })),
+        None => Ok(None),
+    }
 }
 
 /// Whether a line begins at a token with what can't be nested so deep: a table in any brace, or a
@@ -107,9 +111,9 @@ pub(crate) fn after_newlines(tokens: &[Token<'_>], from: usize, end: usize) -> u
 /// The brace that closes the one before a token; the end of the line at it, if that ends before.
 pub(crate) fn closing_brace(tokens: &[Token<'_>], first: usize, or_line: bool) -> usize {
     let mut open = 0;
-    for (at, token) in tokens.iter().enumerate().skip(first) {
+    for at in first..tokens.len() {
         let ends_line = or_line && open == 0 && after_end(tokens, at).is_some();
-        match open_behind(token, open) {
+        match open_behind(&tokens[at], open) {
             Some(left) if !ends_line => open = left,
             _ => return at,
         }
