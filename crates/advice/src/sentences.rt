@@ -82,14 +82,6 @@ struct Guess<'a> {
     question: &'static str,
 }
 
-impl<'a> Guess<'a> {
-    /// The word that may be meant.
-    fn nearest(self, alloc: Global) -> Result<Option<&'a str>, AllocError> {
-        let words = self.words.words(alloc)?;
-        nearest(alloc, self.written, &words)
-    }
-}
-
 /// What to do: a sentence, with a `{}` in each of its gaps.
 #[derive(Clone, Copy)]
 pub struct Advice<'a> {
@@ -112,11 +104,12 @@ impl<'a> Advice<'a> {
 
     /// Writes it on a line.
     pub fn put(self, alloc: Global, lines: &mut String) -> Result<(), AllocError> {
-        if let Some(guess) = self.guess
-            && let Some(near) = guess.nearest(alloc)?
-        {
-            let gaps = [Gap::Text(near), guess.words];
-            return put_filled(alloc, lines, guess.question, &gaps);
+        if let Some(guess) = self.guess {
+            let words = guess.words.words(alloc)?;
+            if let Some(near) = nearest(alloc, guess.written, &words)? {
+                let gaps = [Gap::Text(near), guess.words];
+                return put_filled(alloc, lines, guess.question, &gaps);
+            }
         }
         put_filled(alloc, lines, self.sentence, &self.gaps)
     }

@@ -8,16 +8,6 @@ use nft_lexer::{LexError, Token, lex};
 use nft_rulesets::{has_unsupported, ruleset};
 use std::alloc::{AllocError, Global};
 
-/// Adds tokens, also of another text.
-fn append<'t>(all: &mut Vec<Token<'t>>, tokens: &[Token<'t>]) -> Result<(), AllocError>
-    ensures { IfOk result (λ _. all.new.items ≡ all.old.items ++ tokens.now) }
-{
-    for token in tokens {
-        all.push(*token)?;
-    }
-    Ok(())
-}
-
 /// Some tokens with those of a text behind them; none where that isn't one of tokens.
 ///
 /// # Errors
@@ -30,10 +20,9 @@ pub fn joined<'t>(
     ensures { IfOk result (λ o. IfSome o (λ all. (more : List Token)
         × (all.items ≡ start.now ++ more))) }
 {
-    let mut all = Vec::new(alloc);
-    append(&mut all, start)?;
+    let mut all = start.to_vec(alloc)?;
     match lex(alloc, text.as_bytes()) {
-        Ok(tokens) => append(&mut all, &tokens)?,
+        Ok(tokens) => all.extend_from_slice(&tokens)?,
         Err(LexError::Refused(_)) => return Ok(None),
         Err(LexError::Memory) => return Err(AllocError),
     }
