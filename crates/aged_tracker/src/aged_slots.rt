@@ -202,6 +202,14 @@ impl AgedSlots {
         follower.key()
     }
 
+    /// The key of the next entry's slot.
+    pub fn next_key(&self) -> usize
+        ensures key { result ≡ self.now.slots.vacant_key }
+        ensures few { IsTrue (has_room self.now) → result < MAX_KEYS }
+    {
+        self.slots.vacant_key()
+    }
+
     /// Creates an entry, at the end of its queue.
     pub fn insert(&mut self, connection: Connection, flags: Flags, steps: &mut Steps) -> ConnId
         requires table { IsTable self.old }
@@ -213,7 +221,7 @@ impl AgedSlots {
         ensures slots { Sets (slots_of self.old) (slots_of self.new) result.0
             (Some (begun_with result connection flags)) }
         ensures free { slots_of self.old result.0 ≡ None }
-        ensures few { result.0 < MAX_KEYS }
+        ensures key { result.0 ≡ self.old.slots.vacant_key }
         ensures steps { IsWithin (Some 3) steps.old steps.new }
     {
         let held = connection.begun(ConnId(self.slots.vacant_key()), flags);

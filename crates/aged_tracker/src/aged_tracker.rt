@@ -168,13 +168,13 @@ impl Tracker for AgedTracker {
         if self.live >= MAX_CONNECTIONS {
             return Err(BeginError::Full);
         }
-        if self.index.get(connection.reply, steps).is_some() {
+        let key = self.slots.next_key() as u32;
+        let is_new = self.index.insert_if_absent(connection.reply, key, steps);
+        if !is_new {
             return Err(BeginError::Clash);
         }
         let id = self.slots.insert(connection, flags, steps);
-        let key = id.0 as u32;
         self.index.insert(connection.original, key, steps);
-        self.index.insert(connection.reply, key, steps);
         self.live += 1;
         note_packet(&mut self.live_until, self.looked_at, connection.last);
         Ok(id)

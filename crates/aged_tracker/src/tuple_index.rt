@@ -1,22 +1,22 @@
 //! The index of tuples. Nothing else reaches its map, and each call that looks a tuple up, adds or
 //! removes it counts it in `steps`.
-ghost use Rattle.std.specs.Prelude.{◌≡◌, ◌+◌, ◌<◌, ◌≤◌, IsOk, OnOk, Some, None, cond};
+ghost use Rattle.std.specs.Prelude.{◌≡◌, ◌+◌, ◌<◌, ◌≤◌, IsOk, IsTrue, OnOk, Some, None, cond, false, is_some, not};
 ghost use Rattle.aged_tracker.specs.steps.Table.{room_in, slot_in};
 ghost use Rattle.conntrack.specs.StepCounts.{Counts};
 ghost use Rattle.ip_headers.specs.Same.{same_tuple};
 ghost use Rattle.ip_headers.specs.declared.tuple.Tuple.{Tuple as Tupled};
 
+use chained_map::ChainedMap;
 use conntrack::{Memory, Steps};
 use ip_headers::Tuple;
 use std::alloc::Global;
-use std::collections::HashMap;
 use word_hash::WordState;
 
 /// The slot of each incoming tuple.
 #[derive(Drop)]
 pub struct TupleIndex {
     // Keys are 32 bits wide, as each entry has two here.
-    slots: HashMap<Tuple, u32, WordState>,
+    slots: ChainedMap<Tuple, u32>,
 }
 
 impl TupleIndex {
@@ -25,7 +25,7 @@ impl TupleIndex {
         ensures { (q : Tupled) → slot_in result q ≡ None }
     {
         TupleIndex {
-            slots: HashMap::with_hasher(alloc, keys),
+            slots: ChainedMap::with_hasher(alloc, keys),
         }
     }
 
@@ -36,7 +36,10 @@ impl TupleIndex {
         ensures steps { Counts 1 steps.old steps.new }
     {
         steps.tick();
-        self.slots.get(&tuple).map(|key| *key as usize)
+        match self.slots.get(tuple) {
+            Some(key) => Some(key as usize),
+            None => None,
+        }
     }
 
     /// Adds a tuple.
@@ -48,10 +51,21 @@ impl TupleIndex {
         ensures steps { Counts 1 steps.old steps.new }
     {
         steps.tick();
-        match self.slots.insert(tuple, key) {
-            Ok(_) => (),
-            Err(_) => unreachable!(),
-        }
+        self.slots.insert(tuple, key);
+    }
+
+    /// Adds a tuple, unless it is there; whether it wasn't.
+    pub fn insert_if_absent(&mut self, tuple: Tuple, key: u32, steps: &mut Steps) -> bool
+        requires { 0 < room_in self.old }
+        ensures absent { result ≡ not (is_some (slot_in self.old tuple)) }
+        ensures slots { IsTrue result → (q : Tupled) → slot_in self.new q
+            ≡ cond (same_tuple tuple q) (Some key) (slot_in self.old q) }
+        ensures stays { result ≡ false → self.new ≡ self.old }
+        ensures room { room_in self.old ≤ room_in self.new + 1 }
+        ensures steps { Counts 1 steps.old steps.new }
+    {
+        steps.tick();
+        self.slots.insert_if_absent(tuple, key).is_none()
     }
 
     /// Removes a tuple.
@@ -62,7 +76,7 @@ impl TupleIndex {
         ensures steps { Counts 1 steps.old steps.new }
     {
         steps.tick();
-        self.slots.remove(&tuple);
+        self.slots.remove(tuple);
     }
 
     /// Reserves memory for two more. If it is reserved already nothing changes.
@@ -76,10 +90,6 @@ impl TupleIndex {
         ensures kept { room_in self.old ≤ room_in self.new }
         ensures spared { 1 < room_in self.old → (self.new ≡ self.old) × IsOk result }
     {
-        let room = self.slots.capacity() - self.slots.len();
-        if room >= 2 {
-            return Ok(());
-        }
         self.slots.reserve(2)
     }
 }

@@ -16,11 +16,11 @@ use crate::keys::{
     without_port,
 };
 use crate::pools::Pools;
-use crate::tables::{add_holder, find_inbound, insert_inbound, remove_holder, spare_of};
+use crate::tables::{add_holder, find_inbound, insert_inbound, remove_holder};
+use chained_map::ChainedMap;
 use ip_headers::{Endpoint, Kind, Mapping};
 use port_pool::CandidateRange;
 use std::alloc::{AllocError as Memory, Global};
-use std::collections::HashMap;
 use std::hash::RandomState;
 use std::marker::Model;
 use thiserror::Error;
@@ -37,8 +37,8 @@ pub enum MapError {
 /// The mappings of a NAT. Connections hold them: a mapping is live while it has a holder.
 #[derive(Drop)]
 pub struct Mappings {
-    sources: HashMap<SourceKey, MappedPort, WordState>,
-    inbounds: HashMap<InboundKey, Endpoint, WordState>,
+    sources: ChainedMap<SourceKey, MappedPort>,
+    inbounds: ChainedMap<InboundKey, Endpoint>,
     pools: Pools,
 }
 
@@ -86,8 +86,8 @@ impl Mappings {
         ensures pools { result.pools ≡ 0 }
     {
         Self {
-            sources: HashMap::with_hasher(alloc, keys),
-            inbounds: HashMap::with_hasher(alloc, keys),
+            sources: ChainedMap::with_hasher(alloc, keys),
+            inbounds: ChainedMap::with_hasher(alloc, keys),
             pools: Pools::new(alloc, keys),
         }
     }
@@ -116,7 +116,7 @@ impl Mappings {
             internal,
             address,
         };
-        match self.sources.get(&key) {
+        match self.sources.get(key) {
             Some(mapped) => Ok(mapped.port),
             None => first_free_port(&self.inbounds, &self.pools, key, range).ok_or(
                 MapError::NoPort,
@@ -170,7 +170,7 @@ impl Mappings {
     fn room(&self) -> usize
         ensures { result ≡ self.now.room }
     {
-        let tables = spare_of(&self.sources).min(spare_of(&self.inbounds));
+        let tables = self.sources.spare().min(self.inbounds.spare());
         tables.min(self.pools.room())
     }
 
@@ -236,7 +236,7 @@ impl Mappings {
         if before.holders > 1 {
             return;
         }
-        self.inbounds.remove(&inbound_key(m));
+        self.inbounds.remove(inbound_key(m));
         self.pools.give(pool_key(m), m.external.port);
     }
 }
@@ -244,7 +244,7 @@ impl Mappings {
 /// The first candidate for an internal endpoint that isn't mapped at the external address.
 #[tactic(auto, using(crate::proofs::WhichKinds::zero_found))]
 fn first_free_port(
-    inbounds: &HashMap<InboundKey, Endpoint, WordState>,
+    inbounds: &ChainedMap<InboundKey, Endpoint>,
     pools: &Pools,
     key: SourceKey,
     range: Option<CandidateRange>,

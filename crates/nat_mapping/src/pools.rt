@@ -13,7 +13,6 @@ ghost use Rattle.nat_mapping.specs.steps.KeyTests.{same_inbound, same_pool};
 ghost use Rattle.nat_mapping.specs.steps.Ports.{is_taken_by, AreInUse, IsSpare, SetsPort};
 
 use crate::keys::{PoolKey, has_pool, order};
-use crate::tables::spare_of;
 use port_pool::{CandidateRange, Order, Pool, choose_unused};
 use std::alloc::{AllocError as Memory, Global};
 use std::collections::HashMap;
@@ -59,7 +58,8 @@ impl Pools {
     pub(crate) fn room(&self) -> usize
         ensures { result ≡ pool_room self.now }
     {
-        spare_of(&self.pools).min(self.spares.len())
+        let spare = self.pools.capacity() - self.pools.len();
+        spare.min(self.spares.len())
     }
 
     /// The first free candidate.

@@ -6,15 +6,13 @@ ghost use Rattle.nat_mapping.specs.steps.Keys.{one_fewer, one_more};
 ghost use Rattle.nat_mapping.specs.steps.KeyTests.{same_inbound};
 
 use crate::keys::{InboundKey, MappedPort};
+use chained_map::ChainedMap;
 use ip_headers::Endpoint;
-use std::collections::HashMap;
-use std::collections::hash_map::Entry;
 use std::hash::Hash;
-use word_hash::WordState;
 
 /// The internal endpoint behind an external one.
 pub(crate) fn find_inbound(
-    inbounds: &HashMap<InboundKey, Endpoint, WordState>,
+    inbounds: &ChainedMap<InboundKey, Endpoint>,
     key: InboundKey,
 ) -> Option<Endpoint>
     ensures { result ≡ get same_inbound inbounds.now key }
@@ -23,19 +21,12 @@ pub(crate) fn find_inbound(
     if inbounds.is_empty() {
         return None;
     }
-    inbounds.get(&key).copied()
-}
-
-/// How many more keys fit in a table without growing.
-pub(crate) fn spare_of<K: Eq + Hash, V>(table: &HashMap<K, V, WordState>) -> usize
-    ensures { result ≡ spare table.now }
-{
-    table.capacity() - table.len()
+    inbounds.get(key)
 }
 
 /// Adds a holder under a key, with this port if it is the first. What was there before.
-pub(crate) fn add_holder<K: Eq + Hash + Drop>(
-    sources: &mut HashMap<K, MappedPort, WordState>,
+pub(crate) fn add_holder<K: Copy + Eq + Hash>(
+    sources: &mut ChainedMap<K, MappedPort>,
     key: K,
     port: u16,
 ) -> Option<MappedPort>
@@ -47,26 +38,22 @@ pub(crate) fn add_holder<K: Eq + Hash + Drop>(
     ensures spare { spare sources.old ≤ spare sources.new + 1 }
     ensures unique { IsUnique K.eq sources.new }
 {
-    match sources.entry(key) {
-        Ok(Entry::Vacant(entry)) => {
-            entry.insert(MappedPort { port, holders: 1 });
-            None
-        }
-        Ok(Entry::Occupied(mut entry)) => {
-            let mapped = *entry.get();
-            entry.insert(MappedPort {
+    let before = sources.insert_if_absent(key, MappedPort { port, holders: 1 });
+    if let Some(mapped) = before {
+        sources.replace(
+            key,
+            MappedPort {
                 port: mapped.port,
                 holders: mapped.holders + 1,
-            });
-            Some(mapped)
-        }
-        Err(_) => unreachable!(),
+            },
+        );
     }
+    before
 }
 
 /// Removes a holder under a key, and the key with the last one. What was there before.
-pub(crate) fn remove_holder<K: Eq + Hash + Drop + Copy>(
-    sources: &mut HashMap<K, MappedPort, WordState>,
+pub(crate) fn remove_holder<K: Copy + Eq + Hash>(
+    sources: &mut ChainedMap<K, MappedPort>,
     key: K,
 ) -> MappedPort
     requires { IsSome (get K.eq sources.old key) }
@@ -76,24 +63,26 @@ pub(crate) fn remove_holder<K: Eq + Hash + Drop + Copy>(
     ensures spare { spare sources.old ≤ spare sources.new }
     ensures unique { IsUnique K.eq sources.new }
 {
-    let Some(entry) = sources.get_mut(&key) else {
+    let Some(mapped) = sources.get(key) else {
         unreachable!()
     };
-    let mapped = *entry;
     if mapped.holders > 1 {
-        *entry = MappedPort {
-            port: mapped.port,
-            holders: mapped.holders - 1,
-        };
+        sources.replace(
+            key,
+            MappedPort {
+                port: mapped.port,
+                holders: mapped.holders - 1,
+            },
+        );
     } else {
-        sources.remove(&key);
+        sources.remove(key);
     }
     mapped
 }
 
 /// Maps an external endpoint to an internal one.
 pub(crate) fn insert_inbound(
-    inbounds: &mut HashMap<InboundKey, Endpoint, WordState>,
+    inbounds: &mut ChainedMap<InboundKey, Endpoint>,
     key: InboundKey,
     internal: Endpoint,
 )
@@ -103,8 +92,5 @@ pub(crate) fn insert_inbound(
         ≡ cond (same_inbound key q) (Some internal) (get same_inbound inbounds.old q) }
     ensures spare { spare inbounds.old ≤ spare inbounds.new + 1 }
 {
-    match inbounds.insert(key, internal) {
-        Ok(_) => (),
-        Err(_) => unreachable!(),
-    }
+    inbounds.insert(key, internal);
 }

@@ -59,7 +59,7 @@ invariant_of-self-2 c =
     none-some c.args.m.external.port (sym (ap (option_map (λ (h : MappedPort). h.port)) gone)
     ∙ (table_finds _ (table p)).all (source_key_of c.args.m) c.args.m.external.port among) in
     ended _ _ _ c.self.invariant _ _ _ (table p) c.give.ensures.pooled c.args.m (held p) absent
-    (rw c.inbound_key.ensures at c.remove.ensures.updates.0) (rw c.pool_key.ensures at c.give.ensures.taken)
+    (rw c.inbound_key.ensures at c.remove.ensures.values) (rw c.pool_key.ensures at c.give.ensures.taken)
 
 pub returns-then-before-gt1-clause-held : goal.returns-then-before-gt1-clause-held
 returns-then-before-gt1-clause-held c =

@@ -1,0 +1,4 @@
+pub mod ChainLaws
+pub mod LookupLaws
+pub mod MapLaws
+pub mod NodeLaws
