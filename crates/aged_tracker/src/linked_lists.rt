@@ -59,10 +59,7 @@ pub fn unlink(slots: &mut Slots, heads: &mut [Link; LISTS], key: usize, steps: &
     let Link { prev, next } = links.link;
     set_neighbour(slots, heads, prev, Neighbour::Next, next, steps);
     set_neighbour(slots, heads, next, Neighbour::Previous, prev, steps);
-    match links.list {
-        Some(list) => usize::from(list),
-        None => unreachable!(),
-    }
+    usize::from(links.list.unwrap())
 }
 
 /// Appends a slot that is in no list to one.

@@ -111,10 +111,8 @@ impl Pools {
         if take_port(&mut self.pools, key, port) {
             return;
         }
-        match self.spares.pop() {
-            None => unreachable!(),
-            Some(pool) => start_pool(&mut self.pools, key, pool, port),
-        }
+        let pool = self.spares.pop().unwrap();
+        start_pool(&mut self.pools, key, pool, port);
     }
 
     /// Gives back a port. A pool without taken ports becomes spare, or is freed.

@@ -63,9 +63,7 @@ pub(crate) fn remove_holder<K: Copy + Eq + Hash>(
     ensures spare { spare sources.old ≤ spare sources.new }
     ensures unique { IsUnique K.eq sources.new }
 {
-    let Some(mapped) = sources.get(key) else {
-        unreachable!()
-    };
+    let mapped = sources.get(key).unwrap();
     if mapped.holders > 1 {
         sources.replace(
             key,

@@ -1,5 +1,5 @@
 -- The number of a mapping's holders, one after another.
-use Rattle.std.proofs.Common.{◌≡◌, ◌+◌, cond, List, [], ◌∷◌}
+use Rattle.std.proofs.Common.{◌≡◌, ◌+◌, cond, List, ◌∷◌}
 use Rattle.std.proofs.lemmas.List.Sums.{sum_by-cons}
 use Rattle.ip_headers.specs.declared.tuple.Mapping.{Mapping}
 use Rattle.nat_mapping.specs.Mappings.{same_mapping}

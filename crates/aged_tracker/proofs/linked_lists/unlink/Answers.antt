@@ -50,7 +50,7 @@ skipped c =
     }
 
 pub returns-clause-owner : goal.returns-clause-owner
-returns-clause-owner c = sym c.take_links-links.ensures.list ∙ c.in-Some.is ∙ ap Some (sym c.from.ensures)
+returns-clause-owner c = sym c.take_links-links.ensures.list ∙ c.unwrap.ensures ∙ ap Some (sym c.from.ensures)
 
 pub returns-clause-range : goal.returns-clause-range
 returns-clause-range c = grind arith
