@@ -235,31 +235,39 @@ last_left bucket next head head' count n out b chained some apart member written
       nexts = λ k lt. chained.nexts k (omega arith);
     }
 
--- the last node is out, and then there no more
-pub last_gone : (bucket next head : ℕ → ℕ) (count n : ℕ) → AreChained bucket next head count n (n - 1) → 0 < n → n ≤ nowhere
-    → AreChained bucket next head count (n - 1) nowhere
-last_gone bucket next head count n chained some few = record {
+-- the last node, which is out, is there no more
+pub last_out : (bucket next head : ℕ → ℕ) (count n out : ℕ) → n ≡ out + 1 → AreChained bucket next head count n out
+    → AreChained bucket next head count (n - 1) out
+last_out bucket next head count n out last chained = record {
   heads = λ c lt.
       let is = chained.heads c lt in
-      let less : head c ≤ n - 1 = elim (cases_lt (n - 1) (head c)) [
-        | inl above ↦ absurd (is.linked (omega arith) (omega (arith, is.within)))
-        | inr under ↦ under
-      ] in
       record {
-        within = less;
+        within = elim (cases_lt (n - 1) (head c)) [
+          | inl above ↦ absurd (is.linked (omega arith) (omega (arith, is.within)))
+          | inr under ↦ under
+        ];
         member = is.member;
-        linked = λ p e. omega (arith, less);
-        latest = λ j from below _. is.latest j from (omega arith) (λ e. omega arith);
+        linked = is.linked;
+        latest = λ j from below. is.latest j from (omega arith);
       };
-  nexts = λ k lt _.
-      let is = chained.nexts k (omega arith) (λ e. omega arith) in
-      record {
-        within = is.within;
-        member = is.member;
-        linked = λ p e. omega (arith, is.within);
-        latest = λ j from below _. is.latest j from below (λ e. omega arith);
-      };
+  nexts = λ k lt. chained.nexts k (omega arith);
 }
+
+-- none is out
+pub none_out : (bucket next head : ℕ → ℕ) (count n : ℕ) → n ≤ nowhere → AreChained bucket next head count n n
+    → AreChained bucket next head count n nowhere
+none_out bucket next head count n few chained = record {
+  heads = λ c lt. none_there c n (head c) (omega arith) (chained.heads c lt);
+  nexts = λ k lt _. none_there (bucket k) k (next k) (omega arith) (chained.nexts k lt (λ e. omega arith));
+}
+  where
+    none_there : (b d x : ℕ) → d ≤ n → IsLatest bucket n b d x → IsLatest bucket nowhere b d x
+    none_there b d x within is = record {
+      within = is.within;
+      member = is.member;
+      linked = λ p e. omega (arith, is.within);
+      latest = λ j from below _. is.latest j from below (λ e. omega arith);
+    }
 
 -- what the chains don't reach may change
 pub same_chains : (bucket next bucket' next' head : ℕ → ℕ) (count n out : ℕ) → AreChained bucket next head count n out
@@ -323,4 +331,67 @@ no_chains bucket next head count empty = record {
     latest = λ j from below. absurd (omega arith);
   };
   nexts = λ k lt. absurd (omega arith);
+}
+
+-- what a walk to a node's place knows, that has come to a link
+pub record IsWalked (bucket next head : ℕ → ℕ) (n out b i at link : ℕ) : Type 0 where
+  pub within : at ≤ n
+  pub after : 0 < at → i < at - 1
+  pub member : 0 < at → bucket (at - 1) ≡ b
+  pub linked : 0 < at → at - 1 ≢ out
+  pub first : at ≡ 0 → head b ≡ link
+  pub later : 0 < at → next (at - 1) ≡ link
+  pub ahead : link ≤ n
+  pub ahead_member : 0 < link → bucket (link - 1) ≡ b
+  pub ahead_linked : 0 < link → link - 1 ≢ out
+
+module _ (bucket next head : ℕ → ℕ) (count n out b i : ℕ) (chained : AreChained bucket next head count n out)
+    (b_in : b < count) where
+  pub walk_starts : IsWalked bucket next head n out b i 0 (head b)
+  walk_starts =
+      let is = chained.heads b b_in in
+      record {
+        within = omega arith;
+        after = λ p. absurd (omega arith);
+        member = λ p. absurd (omega arith);
+        linked = λ p. absurd (omega arith);
+        first = λ _ k. head b;
+        later = λ p. absurd (omega arith);
+        ahead = is.within;
+        ahead_member = is.member;
+        ahead_linked = is.linked;
+      }
+
+  module _ (at link : ℕ) (on : i + 1 < link) (walked : IsWalked bucket next head n out b i at link) where
+    beyond : IsLatest bucket out (bucket (link - 1)) (link - 1) (next (link - 1))
+    beyond = chained.nexts (link - 1) (omega (arith, walked.ahead)) (walked.ahead_linked (omega arith))
+
+    pub walk_falls : (after : ℕ) → next (link - 1) ≡ after → after < link
+    walk_falls after is = omega (arith, is, beyond.within)
+
+    pub walk_goes_on : (after : ℕ) → next (link - 1) ≡ after → IsWalked bucket next head n out b i link after
+    walk_goes_on after is = subst (IsWalked bucket next head n out b i link) is (record {
+      within = walked.ahead;
+      after = λ _. omega arith;
+      member = walked.ahead_member;
+      linked = walked.ahead_linked;
+      first = λ e. absurd (omega arith);
+      later = λ _ k. next (link - 1);
+      ahead = omega (arith, walked.ahead, beyond.within);
+      ahead_member = λ p. beyond.member p ∙ walked.ahead_member (omega arith);
+      ahead_linked = beyond.linked;
+    })
+
+-- a walk has come to the place once the link leads to the node or beyond
+pub walk_ends : (bucket next head : ℕ → ℕ) (n out b i at link : ℕ) → IsWalked bucket next head n out b i at link
+    → link ≤ i + 1
+    → IsPlace bucket next head n out b i at link
+walk_ends bucket next head n out b i at link walked passes = record {
+  within = walked.within;
+  after = walked.after;
+  member = walked.member;
+  linked = walked.linked;
+  first = walked.first;
+  later = walked.later;
+  beyond = passes;
 }

@@ -14,7 +14,7 @@ use Rattle.chained_map.specs.declared.node.Node.{Node}
 use Rattle.chained_map.specs.steps.Buckets.{bucket_of}
 use Rattle.chained_map.specs.steps.Chains.{AreChained, IsChained, IsLatest, IsChainedUpTo, IsPlaceOf, WritesLinkAt, buckets_of, nowhere}
 use Rattle.chained_map.specs.steps.Nodes.{entries_of, nexts_of, hashes_of}
-use Rattle.chained_map.proofs.ChainLaws.{unlinked, linked, last_left, last_gone, same_chains, one_more}
+use Rattle.chained_map.proofs.ChainLaws.{unlinked, linked, last_left, none_out, same_chains, one_more}
 
 pub read_number : {X : Type 0} (f : X → ℕ) (xs : List X) (i : ℕ) (x : X) → i < length xs → x ≡ get_or xs i x
     → slice_index (map f xs) i ≡ f x
@@ -58,6 +58,30 @@ module _ {K V : Type 0} where
   pub member_of : (count : ℕ) (nodes : List (Node K V)) (i b : ℕ) (node : Node K V) → i < length nodes → node ≡ get_or nodes i node
       → b ≡ bucket_of count node.hash → buckets_of count nodes i ≡ b
   member_of count nodes i b node lt is bucket = ap (bucket_of count) (read_number (λ n. n.hash) nodes i node lt is) ∙ sym bucket
+
+  -- a head is written
+  pub writes_head : (heads : List ℕ) (nodes : List (Node K V)) (b at link : ℕ) → b < length heads → at ≡ 0
+      → WritesLinkAt heads nodes (set heads b link) nodes b at link
+  writes_head heads nodes b at link b_in zero = record {
+    at_head = λ _. get_or-set_same heads b link 0 b_in;
+    at_next = λ p. absurd (omega arith);
+    other_heads = λ c ne. get_or-set_other heads b c link 0 (ne zero);
+    other_nexts = λ _ _. refl;
+  }
+
+  -- a link is written
+  pub writes_next : (heads : List ℕ) (nodes nodes' : List (Node K V)) (b at link : ℕ) → at ≤ length nodes → 0 < at
+      → nexts_of nodes' ≡ set (nexts_of nodes) (at - 1) link → WritesLinkAt heads nodes heads nodes' b at link
+  writes_next heads nodes nodes' b at link at_in later nexts =
+      let within : at - 1 < length (nexts_of nodes) = omega (arith, length-map nodes (λ n. n.next)) in
+      record {
+        at_head = λ z. absurd (omega arith);
+        at_next = λ _. ap (λ ks. slice_index ks (at - 1)) nexts
+            ∙ get_or-set_same (nexts_of nodes) (at - 1) link 0 within;
+        other_heads = λ _ _. refl;
+        other_nexts = λ k ne. ap (λ ks. slice_index ks k) nexts
+            ∙ get_or-set_other (nexts_of nodes) (at - 1) k link 0 (ne later);
+      }
 
   -- a node is taken out of its chain
   pub unlinks : (heads heads' : List ℕ) (nodes nodes' : List (Node K V)) (node : Node K V) (i b at link : ℕ)
@@ -121,28 +145,28 @@ module _ {K V : Type 0} where
       (read_number (λ m. m.next) after n node n_in last ∙ next) (get_or-set_same heads b (n + 1) 0 b_in)
       (λ c ne. get_or-set_other heads b c (n + 1) 0 ne))
 
-  -- the last node moves to another place, and nothing leads there
-  pub moves : (heads : List ℕ) (nodes nodes' : List (Node K V)) (node : Node K V) (i out : ℕ) → length nodes' + 1 ≡ length nodes
-      → ((k : ℕ) (d : Node K V) → k ≢ i → k + 1 < length nodes → get_or nodes' k d ≡ get_or nodes k d)
-      → ((j : ℕ) → j < length nodes' → j ≢ out → j ≢ i)
-      → IsChainedUpTo (length nodes - 1) out heads nodes → IsChainedUpTo (length nodes') out heads nodes'
-  moves heads nodes nodes' node i out shorter same apart chained =
-      let n : length nodes - 1 ≡ length nodes' = omega arith in
-      let read = λ (f : Node K V → ℕ) (j : ℕ) (below : j < length nodes') (ne : j ≢ out).
-      let j_in : j < length nodes = omega arith in
-      get_or-map f nodes' j node 0 below ∙ ap f (same j node (apart j below ne) (omega arith)) ∙ sym (get_or-map f nodes j node 0 j_in) in
-      same_chains _ _ _ _ _ _ _ _ (subst (λ k. IsChainedUpTo k out heads nodes) n chained)
-      (λ j below ne. ap (bucket_of (length heads)) (read (λ m. m.hash) j below ne)) (λ j below ne. read (λ m. m.next) j below ne)
+  -- the last node moves to the place of one that is out
+  pub moves : (heads : List ℕ) (kept lent moved given : List (Node K V)) (node : Node K V) (i n : ℕ) → lent ≡ kept
+      → n ≡ length kept → length moved + 1 ≡ n
+      → ((k : ℕ) (d : Node K V) → k ≢ i → k + 1 < n → get_or moved k d ≡ get_or lent k d)
+      → given ≡ moved
+      → IsChainedUpTo (length kept - 1) i heads kept → IsChainedUpTo (length given) i heads given
+  moves heads kept lent moved given node i n back long shorter same items chained =
+      let count : length kept - 1 ≡ length moved = omega arith in
+      let read = λ (f : Node K V → ℕ) (j : ℕ) (below : j < length moved) (ne : j ≢ i).
+      let j_in : j < length kept = omega arith in
+      get_or-map f moved j node 0 below ∙ ap f (same j node ne (omega arith) ∙ ap (λ ns. get_or ns j node) back)
+      ∙ sym (get_or-map f kept j node 0 j_in) in
+      subst (λ ns. IsChainedUpTo (length ns) i heads ns) (sym items)
+      (same_chains _ _ _ _ _ _ _ _ (subst (λ k. IsChainedUpTo k i heads kept) count chained)
+      (λ j below ne. ap (bucket_of (length heads)) (read (λ m. m.hash) j below ne))
+      (λ j below ne. read (λ m. m.next) j below ne))
 
-  -- the last node goes, which was out
-  pub goes : (heads : List ℕ) (nodes nodes' : List (Node K V)) (node : Node K V) (i : ℕ) → length nodes' + 1 ≡ length nodes
-      → i + 1 ≡ length nodes → length nodes ≤ 2 ^ 31
-      → ((k : ℕ) (d : Node K V) → k ≢ i → k + 1 < length nodes → get_or nodes' k d ≡ get_or nodes k d)
-      → IsChainedUpTo (length nodes) i heads nodes → IsChained heads nodes'
-  goes heads nodes nodes' node i shorter last few same chained =
-      let back : i ≡ length nodes - 1 = omega arith in
-      moves heads nodes nodes' node i nowhere shorter same (λ j below _ e. omega arith)
-      (last_gone _ _ _ _ _ (subst (λ k. IsChainedUpTo (length nodes) k heads nodes) back chained) (omega arith) (omega arith))
+  -- where none is out all are chained
+  pub none_left_out : (heads : List ℕ) (nodes : List (Node K V)) (out : ℕ) → length nodes ≤ 2 ^ 31 → out ≡ length nodes
+      → IsChainedUpTo (length nodes) out heads nodes → IsChained heads nodes
+  none_left_out heads nodes out few is chained =
+      none_out _ _ _ _ _ (omega arith) (subst (λ k. IsChainedUpTo (length nodes) k heads nodes) is chained)
 
   -- the value and the key of a node that is read
   pub value_at : (nodes : List (Node K V)) (i : ℕ) (node : Node K V) → i < length nodes → node ≡ get_or nodes i node
@@ -183,6 +207,28 @@ module _ {K V : Type 0} where
     pub within : link ≤ length nodes
     pub member : 0 < link → buckets_of (length heads) nodes (link - 1) ≡ bucket_of (length heads) hash
     pub missed : (i : ℕ) → link ≤ i → i < length nodes → slice_index (hashes_of nodes) i ≡ hash → Missed i
+
+  pub walk_begins : (heads : List ℕ) (nodes : List (Node K V)) (hash b : ℕ) (Missed : ℕ → Type 0)
+      → length nodes ≤ 2 ^ 31 → b < length heads → b ≡ bucket_of (length heads) hash → IsChained heads nodes
+      → Walks heads nodes hash (slice_index heads b) Missed
+  walk_begins heads nodes hash b Missed few b_in bucket chained =
+      let is = chained.heads b b_in in
+      record {
+        within = is.within;
+        member = λ p. is.member p ∙ bucket;
+        missed = λ j from below same.
+            absurd (is.latest j from below (λ e. omega arith) (ap (bucket_of (length heads)) same ∙ sym bucket));
+      }
+
+  pub falls : (heads : List ℕ) (nodes : List (Node K V)) (link : ℕ) (node : Node K V) → length nodes ≤ 2 ^ 31
+      → 0 < link → link ≤ length nodes → node ≡ get_or nodes (link - 1) node → IsChained heads nodes → node.next < link
+  falls heads nodes link node few some within is chained =
+      let lt : link - 1 < length nodes = omega arith in
+      omega (
+        arith,
+        read_number (λ n. n.next) nodes (link - 1) node lt is,
+        (chained.nexts (link - 1) lt (λ e. omega arith)).within,
+      )
 
   pub walks : (heads : List ℕ) (nodes : List (Node K V)) (hash link : ℕ) (node : Node K V) (Missed : ℕ → Type 0) → length nodes ≤ 2 ^ 31
       → 0 < link → node ≡ get_or nodes (link - 1) node → IsChained heads nodes

@@ -82,33 +82,54 @@ fn unlink<K: Copy, V: Copy>(heads: &mut [u32], nodes: &mut [Node<K, V>], index: 
     set_link(heads, nodes, bucket, place.at, node.next);
 }
 
-/// Puts a node that is out into its chain.
+/// Puts a node that is out into its chain. At an index past the nodes there is none.
 fn relink<K: Copy, V: Copy>(heads: &mut [u32], nodes: &mut [Node<K, V>], index: usize)
     requires chained { IsChainedUpTo (length nodes.old) index heads.old nodes.old }
-    requires index { index < length nodes.old }
+    requires index { index ≤ length nodes.old }
     requires few { (length nodes.old ≤ length heads.old) × (length heads.old ≤ 2 ^ 31) }
     ensures chained { IsChained heads.new nodes.new }
     ensures long { (length heads.new ≡ length heads.old) × (length nodes.new ≡ length nodes.old) }
     ensures hashes { hashes_of nodes.new ≡ hashes_of nodes.old }
     ensures entries { entries_of nodes.new ≡ entries_of nodes.old }
 {
+    if index == nodes.len() {
+        return;
+    }
     let bucket = bucket_of(nodes[index].hash, heads.len());
     let place = find_place(heads, nodes, index, bucket, index);
     set_next(nodes, index, place.link);
     set_link(heads, nodes, bucket, place.at, index as u32 + 1);
 }
 
-/// Takes the last node out of its chain, which leads to it first.
+/// Takes the last node out of its chain, which leads to it first, unless it is out.
 fn unlink_last<K: Copy, V: Copy>(heads: &mut [u32], nodes: &[Node<K, V>], out: usize)
     requires chained { IsChainedUpTo (length nodes.now) out heads.old nodes.now }
-    requires last { out + 1 < length nodes.now }
+    requires out { out < length nodes.now }
     requires few { (length nodes.now ≤ length heads.old) × (length heads.old ≤ 2 ^ 31) }
     ensures chained { IsChainedUpTo (length nodes.now - 1) out heads.new nodes.now }
     ensures long { length heads.new ≡ length heads.old }
 {
-    let node = nodes[nodes.len() - 1];
+    let last = nodes.len() - 1;
+    if out == last {
+        return;
+    }
+    let node = nodes[last];
     let bucket = bucket_of(node.hash, heads.len());
     heads[bucket] = node.next;
+}
+
+/// Takes a node and the last one out of their chains.
+fn unlink_both<K: Copy, V: Copy>(heads: &mut [u32], nodes: &mut [Node<K, V>], index: usize)
+    requires chained { IsChained heads.old nodes.old }
+    requires index { index < length nodes.old }
+    requires few { (length nodes.old ≤ length heads.old) × (length heads.old ≤ 2 ^ 31) }
+    ensures chained { IsChainedUpTo (length nodes.new - 1) index heads.new nodes.new }
+    ensures long { (length heads.new ≡ length heads.old) × (length nodes.new ≡ length nodes.old) }
+    ensures hashes { hashes_of nodes.new ≡ hashes_of nodes.old }
+    ensures entries { entries_of nodes.new ≡ entries_of nodes.old }
+{
+    unlink(heads, nodes, index);
+    unlink_last(heads, nodes, index);
 }
 
 /// Removes a node, and moves the last one to its place.
@@ -129,11 +150,7 @@ pub(crate) fn remove_node<K: Copy, V: Copy>(
     ensures value { slice_get (values_of (entries_of nodes.old.items)) index ≡ Some result }
     ensures capacity { vec_capacity nodes.new ≡ vec_capacity nodes.old }
 {
-    unlink(heads, nodes, index);
-    if index + 1 == nodes.len() {
-        return nodes.swap_remove(index).value;
-    }
-    unlink_last(heads, nodes, index);
+    unlink_both(heads, nodes, index);
     let removed = nodes.swap_remove(index);
     relink(heads, nodes, index);
     removed.value

@@ -11,6 +11,7 @@
 
 mod buckets;
 mod chains;
+mod growth;
 mod lookups;
 mod map;
 mod node;

@@ -5,8 +5,9 @@ ghost use Rattle.std.specs.List.{swap_remove};
 ghost use Rattle.chained_map.specs.Values.{hash_map, position, set_value_at};
 ghost use Rattle.chained_map.specs.steps.Buckets.{hash_of};
 
-use crate::buckets::{grown, hash_of};
-use crate::chains::{link_all, push_node, remove_node};
+use crate::buckets::hash_of;
+use crate::chains::{push_node, remove_node};
+use crate::growth::make_room;
 use crate::lookups::find;
 use crate::node::Node;
 use std::alloc::{AllocError, Global};
@@ -250,13 +251,6 @@ impl<K: Copy + Eq + Hash, V: Copy> ChainedMap<K, V> {
         ensures hasher { hasher_of self.new ≡ hasher_of self.old }
         ensures unique { IsUnique K.eq self.new }
     {
-        let len = self.nodes.len();
-        let count = grown(self.heads.len(), len, additional)?;
-        self.nodes.reserve_exact(count - len)?;
-        let mut heads = Vec::new(*self.nodes.allocator());
-        heads.resize(count, 0)?;
-        link_all(&mut heads, &mut self.nodes);
-        self.heads = heads;
-        Ok(())
+        make_room(&mut self.heads, &mut self.nodes, additional)
     }
 }

@@ -1,7 +1,9 @@
-use Rattle.std.proofs.Common.{◌≡◌, ◌+◌, length, sym, ap, subst, ◌∙◌, arith}
-use Rattle.std.proofs.lemmas.List.{length-set}
+use Rattle.std.proofs.Common.{◌≡◌, ◌+◌, length, refl, sym, ap, subst, ◌∙◌, arith}
+use Rattle.std.specs.Prelude.{slice_index}
+use Rattle.std.proofs.lemmas.List.{get_or-replicate, length-set}
 use Rattle.chained_map.specs.steps.Buckets.{bucket_of}
 use Rattle.chained_map.specs.steps.Chains.{IsChainedUpTo, nowhere}
+use Rattle.chained_map.proofs.ChainLaws.{no_chains}
 use Rattle.chained_map.proofs.NodeLaws.{chains_next}
 use Rattle.chained_map.proofs.chains.link_all.Goals as goal
 
@@ -23,3 +25,19 @@ pub returns-clause-chained : goal.returns-clause-chained
 returns-clause-chained g c =
     let all : c.loop-index.index ≡ length c.loop-index.nodes = omega arith in
     subst (λ n. IsChainedUpTo n nowhere c.loop-index.heads c.loop-index.nodes) all c.loop-index.invariant.chained
+
+pub loop-index-init : goal.loop-index-init
+loop-index-init g c =
+    let heads = c.args.heads.now in
+    record {
+      chained = no_chains _ _ _ _ (λ b lt. ap (λ hs. slice_index hs b) c.requires.empty
+          ∙ get_or-replicate (length heads) b 0 0 lt);
+      long = refl;
+      hashes = refl;
+      entries = refl;
+    }
+
+pub bucket_of-bucket-requires : goal.bucket_of-bucket-requires
+bucket_of-bucket-requires g c =
+    let long = c.loop-index.invariant.long in
+    (omega arith, omega (arith, long, c.requires.few.1))

@@ -11,3 +11,6 @@ returns-clause-hashes g c = map-set_same (λ n. n.hash) c.args.nodes.now c.args.
 
 pub returns-clause-entries : goal.returns-clause-entries
 returns-clause-entries g c = map-set_same (λ n. (n.key, n.value)) c.args.nodes.now c.args.index _ c.index-nodes-index.result refl
+
+pub bounds-nodes-index : goal.bounds-nodes-index
+bounds-nodes-index g c = c.requires

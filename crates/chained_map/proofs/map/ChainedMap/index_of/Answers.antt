@@ -1,6 +1,6 @@
-use Rattle.std.proofs.Common.{◌≡◌, true, length, get_or, sym, ap, ◌∙◌, arith}
+use Rattle.std.proofs.Common.{◌≡◌, true, length, get_or, sym, ap, subst, ◌∙◌, arith}
 use Rattle.std.specs.Prelude.{slice_index}
-use Rattle.std.specs.HashMap.{hasher_of}
+use Rattle.std.specs.HashMap.{hasher_of, IsUnique}
 use Rattle.std.specs.Map.{keys_of}
 use Rattle.std.proofs.lemmas.List.{length-map}
 use Rattle.std_collections.proofs.HashLookup.{probe_found, probe_absent}
@@ -30,3 +30,6 @@ returns-clause-place g c =
     (λ a. seen ∙ probe_absent eq hash laws test c.args.hash (hashes_of nodes) (entries_of nodes) c.self.invariant.hashed agrees
     (λ i p e d. a i (omega (arith, p, long, ap length items)) (ap (λ ns. slice_index (hashes_of ns) i) items ∙ e) d
     ∙ ap (λ ns. test (get_or (keys_of (entries_of ns)) i d)) items))
+
+pub returns-clause-unique : goal.returns-clause-unique
+returns-clause-unique g c = subst (IsUnique g.K.PartialEq.eq) c.self.view_is c.self.invariant.hashed.0

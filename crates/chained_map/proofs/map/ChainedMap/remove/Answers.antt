@@ -1,5 +1,6 @@
-use Rattle.std.proofs.Common.{sym, ap, arith}
+use Rattle.std.proofs.Common.{sym, ap, arith, ◌∙◌}
 use Rattle.std.specs.HashMap.{hasher_of, spare}
+use Rattle.chained_map.specs.steps.Buckets.{hash_of}
 use Rattle.chained_map.proofs.LookupLaws.{found_within, found_value, found_some, taken_values, taken_unique, not_found, not_some, same_values}
 use Rattle.chained_map.proofs.map.ChainedMap.remove.Goals as goal
 
@@ -43,3 +44,7 @@ returns-in-None-clause-values g c =
 pub returns-in-None-clause-one_more : goal.returns-in-None-clause-one_more
 returns-in-None-clause-one_more g c some =
     absurd (not_some g.K.PartialEq.eq c.args.key c.args.self.now c.in-None.ensures.place some)
+
+pub index_of-requires : goal.index_of-requires
+index_of-requires g c = c.hash_of.ensures ∙ ap (λ m. hash_of (hasher_of m) (g.K.Hash.hash_input c.args.key))
+    c.self.view_is

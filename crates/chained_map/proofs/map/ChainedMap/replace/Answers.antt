@@ -1,4 +1,6 @@
-use Rattle.std.proofs.Common.{sym}
+use Rattle.std.proofs.Common.{sym, ap, ◌∙◌}
+use Rattle.std.specs.HashMap.{hasher_of}
+use Rattle.chained_map.specs.steps.Buckets.{hash_of}
 use Rattle.chained_map.proofs.LookupLaws.{found_some, found_within, found_value, not_found, not_some, written_values, written_unique}
 use Rattle.chained_map.proofs.map.ChainedMap.replace.Goals as goal
 
@@ -29,3 +31,7 @@ returns-in-None-clause-before g c = sym (not_found g.K.PartialEq.eq c.args.key c
 pub returns-in-None-clause-values : goal.returns-in-None-clause-values
 returns-in-None-clause-values g c some =
     absurd (not_some g.K.PartialEq.eq c.args.key c.args.self.now c.in-None.ensures.place some)
+
+pub index_of-requires : goal.index_of-requires
+index_of-requires g c = c.hash_of.ensures ∙ ap (λ m. hash_of (hasher_of m) (g.K.Hash.hash_input c.args.key))
+    c.self.view_is
