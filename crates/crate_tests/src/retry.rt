@@ -207,19 +207,6 @@ struct Replayed {
 }
 
 impl Replayed {
-    /// Before the first record.
-    fn new<R: Abort + AllocGlobal>(rt: &R, engine: Engine<AgedTracker>, trace: bool) -> Self {
-        let report = Report::new(rt.alloc(), engine.rules(), trace).expect(rt, "memory");
-        let mut sent = Counted::new(Vec::new(rt.alloc()));
-        let sink = Sink::open(rt.alloc(), &mut sent).expect(rt, "a write");
-        Replayed {
-            engine,
-            report,
-            sink,
-            sent,
-        }
-    }
-
     /// Steps the record, notes its entry in the report, and writes the packet that it forwards.
     fn take<R: Abort + AllocGlobal + Files>(&mut self, rt: &R, record: &Record) {
         if self.engine.records() < MOST_RECORDS && self.report.records() < MOST_RECORDS {
@@ -266,7 +253,16 @@ fn packets_and_report<R: Abort + AllocGlobal + Files>(
     row: &Row,
     capture: &[u8],
 ) -> (Vec<u8>, Vec<u8>) {
-    let mut replayed = Replayed::new(rt, started(rt, row.rules), row.trace);
+    let engine = started(rt, row.rules);
+    let report = Report::new(rt.alloc(), engine.rules(), row.trace).expect(rt, "memory");
+    let mut sent = Counted::new(Vec::new(rt.alloc()));
+    let sink = Sink::open(rt.alloc(), &mut sent).expect(rt, "a write");
+    let mut replayed = Replayed {
+        engine,
+        report,
+        sink,
+        sent,
+    };
     let torn = replayed.take_all(rt, capture);
     let report = replayed.finish(rt, torn);
     (replayed.sent.into_inner(), report)
