@@ -18,32 +18,31 @@ const AT_1_5: &str = "0100000020a107001c0000001c000000";
 /// UDP from 192.168.1.10:5000 to 198.51.100.7:53, TTL 64.
 const PLAIN: &str = "4500001c0001000040118ee3c0a8010ac63364071388003500080000";
 
-/// The number of records, or the first fault.
-fn count_until_fault<I: Read>(
+/// Whether that fault is reported, and leaves no record.
+fn is_reported_again<I: Read>(
     capture: &mut Capture,
     reader: &mut Counted<I>,
-) -> Result<u64, CaptureError> {
-    for count in 0..9 {
-        if !capture.next(reader)? {
-            return Ok(count);
-        }
-    }
-    Ok(9)
+    fault: CaptureError,
+) -> bool {
+    capture.next(reader) == Err(fault) && capture.record().is_none()
 }
 
-/// Whether a fault is reported again, and leaves no record.
-fn is_repeated<I: Read>(
+/// Whether that is the number of records, or the first fault, which is reported again.
+fn reads<I: Read>(
     capture: &mut Capture,
     reader: &mut Counted<I>,
-    answer: Result<u64, CaptureError>,
+    wanted: Result<u64, CaptureError>,
 ) -> bool {
-    match answer {
-        Ok(_) => true,
-        Err(fault) => {
-            matches!(capture.next(reader), Err(again) if again == fault)
-                && capture.record().is_none()
+    for count in 0..9 {
+        match capture.next(reader) {
+            Ok(true) => {}
+            Ok(false) => return wanted == Ok(count),
+            Err(fault) => {
+                return wanted == Err(fault) && is_reported_again(capture, reader, fault);
+            }
         }
     }
+    wanted == Ok(9)
 }
 
 /// Whether that is the answer after opening the capture, and a fault is reported again.
@@ -53,10 +52,7 @@ fn answers<I: Read>(
     wanted: Result<u64, CaptureError>,
 ) -> bool {
     match Capture::open(alloc, reader) {
-        Ok(mut capture) => {
-            count_until_fault(&mut capture, reader) == wanted
-                && is_repeated(&mut capture, reader, wanted)
-        }
+        Ok(mut capture) => reads(&mut capture, reader, wanted),
         Err(fault) => wanted == Err(fault),
     }
 }

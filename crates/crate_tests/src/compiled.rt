@@ -22,7 +22,7 @@ struct CodeFacts {
 
 /// What is asked of the ruleset's code on this box; `None` if it is refused.
 fn facts_of<R: Abort + AllocGlobal>(rt: &R, rules: &[u8]) -> Option<CodeFacts> {
-    let code = code_of(rt, rules, BOX)?;
+    let code = code_of(rt.alloc(), rules, BOX)?;
     Some(CodeFacts {
         forward_cost: forward_cost(&code),
         element: only_element(&code),

@@ -135,21 +135,15 @@ static LISTED: [(&[Sent], &[Masqueraded]); 4] = [
     ),
 ];
 
-/// Steps the record of a packet.
-fn take_packet<R: Abort + AllocGlobal, T: Tracker>(rt: &R, engine: &mut Engine<T>, sent: &Sent) {
-    let (moment, link, packet) = *sent;
-    let bytes = bytes(rt, &[link, packet]);
-    take(rt, engine, moment, LinkType::Sll2, &bytes);
-}
-
 /// The connections that the engine lists after these records.
 fn listed_by<R: Abort + AllocGlobal, T: Tracker>(
     rt: &R,
     engine: &mut Engine<T>,
     records: &[Sent],
 ) -> Vec<Connection> {
-    for sent in records {
-        take_packet(rt, engine, sent);
+    for &(moment, link, packet) in records {
+        let bytes = bytes(rt, &[link, packet]);
+        take(rt, engine, moment, LinkType::Sll2, &bytes);
     }
     engine.connections(rt.alloc()).expect(rt, "memory")
 }

@@ -26,18 +26,20 @@ fn has_made(
     shows(alloc, given.status, line) && given.failures == failures && given.calls == calls
 }
 
-/// The last call on OUT is a flush: behind it nothing is called, and the report is empty.
-fn stops_at_packets<R: Abort + AllocGlobal>(rt: &R, capture: &[u8], whole: &RunResult) {
-    let given = run_of(rt.alloc(), capture, [usize::MAX, 2, usize::MAX]);
-    let has_stopped = has_made(rt.alloc(), &given, "device", [0, 1, 0], [2, 3, 0]);
-    assert!(rt; has_stopped && given.sent == whole.sent && given.report.len() == 0);
-}
-
-/// The last call on the report is a flush: both outputs are whole.
-fn stops_at_report<R: Abort + AllocGlobal>(rt: &R, capture: &[u8], whole: &RunResult) {
-    let given = run_of(rt.alloc(), capture, [usize::MAX, usize::MAX, 1]);
-    let has_stopped = has_made(rt.alloc(), &given, "device", [0, 0, 1], [2, 3, 2]);
-    assert!(rt; has_stopped && given.sent == whole.sent && given.report == whole.report);
+/// The run over the packet stops at the flush that fails, with so many failed calls and calls of each
+/// device, and these outputs.
+fn stops<R: Abort + AllocGlobal>(
+    rt: &R,
+    capture: &[u8],
+    flush: [usize; 3],
+    failures: [u64; 3],
+    calls: [u64; 3],
+    outputs: [&[u8]; 2],
+) {
+    let given = run_of(rt.alloc(), capture, flush);
+    let has_stopped = has_made(rt.alloc(), &given, "device", failures, calls);
+    let [sent, report] = outputs;
+    assert!(rt; has_stopped && given.sent.as_slice() == sent && given.report.as_slice() == report);
 }
 
 #[test]
@@ -45,6 +47,11 @@ fn a_flush_that_fails_stops_the_run(rt: HostRuntime) {
     let capture = bytes(&rt, &[HEADER, AT_1_5, PLAIN]);
     let whole = run_of(rt.alloc(), &capture, [usize::MAX; 3]);
     assert!(&rt; has_made(rt.alloc(), &whole, "done", [0, 0, 0], [2, 3, 2]));
-    stops_at_packets(&rt, &capture, &whole);
-    stops_at_report(&rt, &capture, &whole);
+    let (sent, report) = (whole.sent.as_slice(), whole.report.as_slice());
+    // The last call on OUT is a flush: behind it nothing is called, and the report is empty.
+    let flush = [usize::MAX, 2, usize::MAX];
+    stops(&rt, &capture, flush, [0, 1, 0], [2, 3, 0], [sent, b""]);
+    // The last call on the report is a flush: both outputs are whole.
+    let flush = [usize::MAX, usize::MAX, 1];
+    stops(&rt, &capture, flush, [0, 0, 1], [2, 3, 2], [sent, report]);
 }

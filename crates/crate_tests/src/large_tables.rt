@@ -63,25 +63,19 @@ fn connection_of(number: usize, moment: u64) -> Connection {
 }
 
 /// Whether these are the connections of the first numbers, in their order.
-fn are_first(all: &[Connection]) -> bool {
+fn are_first(all: &[Connection], moment: u64) -> bool {
     for number in 0..all.len() {
-        if all[number] != connection_of(number, 0) {
+        if all[number] != connection_of(number, moment) {
             return false;
         }
     }
     true
 }
 
-/// All connections are listed.
-fn lists_all<R: Abort + AllocGlobal>(rt: &R, engine: &Engine<AgedTracker>) {
+/// Only the first connections are listed, so many, each of a packet at this moment.
+fn lists<R: Abort + AllocGlobal>(rt: &R, engine: &Engine<AgedTracker>, count: usize, moment: u64) {
     let all = engine.connections(rt.alloc()).expect(rt, "memory");
-    assert!(rt; all.len() == CONNECTIONS && are_first(&all));
-}
-
-/// Only the connection of a packet at the limit is listed.
-fn lists_the_last<R: Abort + AllocGlobal>(rt: &R, engine: &Engine<AgedTracker>) {
-    let all = engine.connections(rt.alloc()).expect(rt, "memory");
-    assert!(rt; all.len() == 1 && all[0] == connection_of(0, AT_THE_LIMIT));
+    assert!(rt; all.len() == count && are_first(&all, moment));
 }
 
 /// A hundred thousand connections with fifty thousand mappings are listed; when all have expired, a
@@ -93,7 +87,7 @@ fn many_connections_are_listed(rt: HostRuntime) {
         let (port, to) = ports_of(number);
         send(&rt, &mut engine, 0, port, to);
     }
-    lists_all(&rt, &engine);
+    lists(&rt, &engine, CONNECTIONS, 0);
     send(&rt, &mut engine, AT_THE_LIMIT, FIRST_PORT, 53);
-    lists_the_last(&rt, &engine);
+    lists(&rt, &engine, 1, AT_THE_LIMIT);
 }

@@ -71,8 +71,7 @@ impl Replay {
                 Ok(true) => self.take(sent)?,
                 Ok(false) => return Ok(None),
                 Err(CaptureError::Refused(fault)) => return Ok(Some(fault)),
-                Err(CaptureError::Device) => return Err(RunFault::Device),
-                Err(CaptureError::Memory) => return Err(RunFault::Memory),
+                Err(fault) => return Err(fault.into()),
             }
         }
         Ok(Some(CaptureFault::TooMany))

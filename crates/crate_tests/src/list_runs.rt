@@ -3,7 +3,7 @@
 //! OUT` behind the test's name it writes what `nftrun run` has to, and `tests/rows/test-rows`
 //! compares that with the stored runs; without words it compares one run with `engine::run`.
 use crate::list_replay::replay_capture;
-use crate::run_support::{AT_1_5, BOX, HEADER, PLAIN, ROUTER, no_failures, run_over};
+use crate::run_support::{AT_1_5, BOX, HEADER, NO_FAILURES, PLAIN, ROUTER, run_over};
 use crate::support::bytes;
 use engine::RunFault;
 use pcap_io::Counted;
@@ -72,7 +72,7 @@ fn run_files<R: Files + Print + AllocGlobal>(rt: &R, words: &Words<'_>) -> Resul
 /// A packet through the router gives the packets and the report of `engine::run`.
 fn compare<R: Abort + AllocGlobal>(rt: &R) {
     let capture = bytes(rt, &[HEADER, AT_1_5, PLAIN]);
-    let whole = run_over(rt.alloc(), ROUTER, BOX, &capture, true, no_failures(99));
+    let whole = run_over(rt.alloc(), ROUTER, BOX, &capture, true, NO_FAILURES);
     let mut reader = Counted::new(capture.as_slice());
     let mut sent = Counted::new(Vec::new(rt.alloc()));
     let mut report = Counted::new(Vec::new(rt.alloc()));

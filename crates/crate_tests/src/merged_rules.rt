@@ -324,19 +324,6 @@ fn takes_verdict(code: &Code, start: Start, wanted: &ExpectedVerdict, events: &m
     first_rule(events.list()) == rule && matches!(end.verdict, HookVerdict::Dropped) == is_dropped
 }
 
-/// Whether a packet has the verdict.
-fn has_verdict<R: Abort + AllocGlobal>(
-    rt: &R,
-    code: &Code,
-    start: Start,
-    wanted: &ExpectedVerdict,
-) -> bool
-    requires { start.cost ≤ 1000 }
-{
-    let mut events = Events::new(rt.alloc(), code).expect(rt, "memory");
-    takes_verdict(code, start, wanted, &mut events)
-}
-
 /// Whether a packet from each address has the verdict.
 fn has_verdicts<R: Abort + AllocGlobal>(
     rt: &R,
@@ -346,12 +333,12 @@ fn has_verdicts<R: Abort + AllocGlobal>(
 ) -> bool
     requires { start.cost ≤ 1000 }
 {
+    let mut are_right = true;
     for verdict in wanted {
-        if !has_verdict(rt, code, start, verdict) {
-            return false;
-        }
+        let mut events = Events::new(rt.alloc(), code).expect(rt, "memory");
+        are_right &= takes_verdict(code, start, verdict, &mut events);
     }
-    true
+    are_right
 }
 
 /// Whether the code has these steps, tables, merged and dropped rules, and indexes.
@@ -383,7 +370,7 @@ fn without_indexes(row: &Row) -> Row {
 /// Whether the ruleset's code and verdicts are as the row says, and but for the indexes also where
 /// rules are tried one by one.
 fn is_compiled<R: Abort + AllocGlobal>(rt: &R, row: &Row) -> bool {
-    let Some(mut code) = code_of(rt, row.0, BOX) else {
+    let Some(mut code) = code_of(rt.alloc(), row.0, BOX) else {
         return false;
     };
     let is_indexed = is_right(rt, &code, row);
@@ -393,13 +380,18 @@ fn is_compiled<R: Abort + AllocGlobal>(rt: &R, row: &Row) -> bool {
     is_indexed && is_right(rt, &code, &without_indexes(row))
 }
 
+/// Checks all rows.
+fn are_compiled<R: Abort + AllocGlobal>(rt: &R, rows: &[Row]) {
+    for row in 0..rows.len() {
+        check_row(rt, row, is_compiled(rt, &rows[row]));
+    }
+}
+
 /// What the report has of the nested matches, the written mark and the rule after `accept`, rows of
 /// `tests/rows` have.
 #[test]
 fn rules_are_merged_and_dropped(rt: HostRuntime) {
-    for row in 0..MERGED.len() {
-        check_row(&rt, row, is_compiled(&rt, &MERGED[row]));
-    }
+    are_compiled(&rt, &MERGED);
 }
 
 /// How many indexes there are on the eight selectors' rules, which a packet meets eight times.
@@ -407,13 +399,11 @@ fn indexes_of_eight<R: Abort + AllocGlobal>(rt: &R) -> Option<usize> {
     let head = b"table ip t { set none { type ifname }
 chain fwd { type filter hook forward priority 0;";
     let rules = repeated(rt, head, EIGHT_SELECTORS, 8, b"} }");
-    Some(code_of(rt, &rules, BOX)?.size().indexes)
+    Some(code_of(rt.alloc(), &rules, BOX)?.size().indexes)
 }
 
 #[test]
 fn a_run_has_an_index_for_each_selector_and_mask(rt: HostRuntime) {
-    for row in 0..INDEXED.len() {
-        check_row(&rt, row, is_compiled(&rt, &INDEXED[row]));
-    }
+    are_compiled(&rt, &INDEXED);
     assert!(&rt; indexes_of_eight(&rt) == Some(9), "eight selectors");
 }

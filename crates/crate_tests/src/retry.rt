@@ -2,11 +2,10 @@
 //! runs this test over and over, and refuses each request of its steps in turn.
 ghost use Rattle.std.specs.Prelude.{◌≡◌, ◌<◌, IsSome, IsTrue, false};
 
-use crate::run_support::{AT_1_5, BOX, HEADER, PLAIN, ROUTER, no_failures, run_over, started};
+use crate::run_support::{AT_1_5, BOX, HEADER, NO_FAILURES, PLAIN, ROUTER, run_over, started};
 use crate::support::bytes;
 use aged_tracker::AgedTracker;
 use conntrack::Connection;
-use nft_tree::Ruleset;
 use pcap_io::{Capture, Counted, Record, Sink};
 use program::Status;
 use report::Report;
@@ -138,24 +137,24 @@ struct EngineState {
     connections: Vec<Connection>,
 }
 
-fn last_record(engine: &Engine<AgedTracker>) -> Option<LastRecord> {
-    match engine.entry() {
+fn state_of<R: Abort + AllocGlobal>(rt: &R, engine: &Engine<AgedTracker>) -> EngineState {
+    let entry = match engine.entry() {
         Some(entry) => Some((entry.number, entry.length, entry.events.len(), entry.begun)),
         None => None,
-    }
-}
-
-fn connections_of<R: Abort + AllocGlobal>(rt: &R, engine: &Engine<AgedTracker>) -> Vec<Connection> {
-    engine.connections(rt.alloc()).expect(rt, "memory")
-}
-
-fn state_of<R: Abort + AllocGlobal>(rt: &R, engine: &Engine<AgedTracker>) -> EngineState {
+    };
     EngineState {
         records: engine.records(),
-        entry: last_record(engine),
+        entry,
         packet: engine.packet().to_vec(rt.alloc()).expect(rt, "memory"),
-        connections: connections_of(rt, engine),
+        connections: engine.connections(rt.alloc()).expect(rt, "memory"),
     }
+}
+
+fn are_same(one: &EngineState, other: &EngineState) -> bool {
+    one.records == other.records
+        && one.entry == other.entry
+        && one.packet == other.packet
+        && one.connections == other.connections
 }
 
 fn open_file<R: Abort + AllocGlobal + Files>(rt: &R) {
@@ -179,20 +178,6 @@ fn try_step<R: Abort + AllocGlobal + Files>(
     is_taken
 }
 
-/// The engine's state is as before.
-fn has_not_changed<R: Abort + AllocGlobal>(
-    rt: &R,
-    engine: &Engine<AgedTracker>,
-    before: &EngineState,
-) {
-    let connections = connections_of(rt, engine);
-    let is_unchanged = engine.records() == before.records
-        && last_record(engine) == before.entry
-        && engine.packet() == before.packet.as_slice()
-        && connections == before.connections;
-    assert!(rt; is_unchanged);
-}
-
 /// Steps the record, and once more if there was no memory for it; between the two the engine's
 /// state is as before.
 fn step_again<R: Abort + AllocGlobal + Files>(
@@ -207,63 +192,29 @@ fn step_again<R: Abort + AllocGlobal + Files>(
     if try_step(rt, engine, record) {
         return;
     }
-    has_not_changed(rt, engine, &before);
+    let is_unchanged = are_same(&state_of(rt, engine), &before);
+    assert!(rt; is_unchanged);
     engine.step(record).expect(rt, "memory");
-}
-
-/// The outputs of a run.
-#[derive(Drop)]
-struct Outputs {
-    report: Report,
-    sink: Sink,
-    sent: Counted<Vec<u8>>,
-}
-
-impl Outputs {
-    /// Before the first record.
-    fn open<R: Abort + AllocGlobal>(rt: &R, rules: &Ruleset, trace: bool) -> Self {
-        let mut sent = Counted::new(Vec::new(rt.alloc()));
-        Outputs {
-            report: Report::new(rt.alloc(), rules, trace).expect(rt, "memory"),
-            sink: Sink::open(rt.alloc(), &mut sent).expect(rt, "a write"),
-            sent,
-        }
-    }
-
-    /// Writes the packets that the sink still holds.
-    fn finish<R: Abort>(&mut self, rt: &R) {
-        let finished = self.sink.finish(&mut self.sent);
-        finished.expect(rt, "a write");
-    }
-
-    /// The packets written.
-    fn packets(self) -> Vec<u8> {
-        self.sent.into_inner()
-    }
 }
 
 /// A run in progress.
 #[derive(Drop)]
 struct Replayed {
     engine: Engine<AgedTracker>,
-    outputs: Outputs,
+    report: Report,
+    sink: Sink,
+    sent: Counted<Vec<u8>>,
 }
 
 impl Replayed {
-    /// Before the first record.
-    fn new<R: Abort + AllocGlobal>(rt: &R, engine: Engine<AgedTracker>, trace: bool) -> Self {
-        let outputs = Outputs::open(rt, engine.rules(), trace);
-        Replayed { engine, outputs }
-    }
-
     /// Steps the record, notes its entry in the report, and writes the packet that it forwards.
     fn take<R: Abort + AllocGlobal + Files>(&mut self, rt: &R, record: &Record) {
-        if self.engine.records() < MOST_RECORDS && self.outputs.report.records() < MOST_RECORDS {
+        if self.engine.records() < MOST_RECORDS && self.report.records() < MOST_RECORDS {
             step_again(rt, &mut self.engine, record);
             let Processed { entry, leaving } = self.engine.newest();
-            self.outputs.report.note(&entry).expect(rt, "room");
+            self.report.note(&entry).expect(rt, "room");
             if let Some(leaving) = leaving {
-                let put = self.outputs.sink.put(&mut self.outputs.sent, &leaving);
+                let put = self.sink.put(&mut self.sent, &leaving);
                 put.expect(rt, "a write");
             }
         }
@@ -284,29 +235,15 @@ impl Replayed {
         records.next(&mut reader).is_err()
     }
 
-    /// The report of the whole run.
-    fn report_bytes<R: Abort + AllocGlobal>(&mut self, rt: &R, torn: bool) -> Vec<u8> {
-        self.outputs.finish(rt);
-        let mut report_bytes = Counted::new(Vec::new(rt.alloc()));
+    /// Writes the packets that the sink still holds. Returns the report of the whole run.
+    fn finish<R: Abort + AllocGlobal>(&mut self, rt: &R, torn: bool) -> Vec<u8> {
+        self.sink.finish(&mut self.sent).expect(rt, "a write");
+        let mut report = Counted::new(Vec::new(rt.alloc()));
         let live = self.engine.live() as u64;
         let rules = self.engine.rules();
-        let written = self
-            .outputs
-            .report
-            .lines(rules, live, torn, &mut report_bytes);
+        let written = self.report.lines(rules, live, torn, &mut report);
         written.expect(rt, "a write");
-        report_bytes.into_inner()
-    }
-
-    /// The packets written.
-    fn packets(self) -> Vec<u8> {
-        self.outputs.packets()
-    }
-
-    /// The report of a capture.
-    fn replay<R: Abort + AllocGlobal + Files>(&mut self, rt: &R, capture: &[u8]) -> Vec<u8> {
-        let torn = self.take_all(rt, capture);
-        self.report_bytes(rt, torn)
+        report.into_inner()
     }
 }
 
@@ -316,22 +253,25 @@ fn packets_and_report<R: Abort + AllocGlobal + Files>(
     row: &Row,
     capture: &[u8],
 ) -> (Vec<u8>, Vec<u8>) {
-    let mut replayed = Replayed::new(rt, started(rt, row.rules), row.trace);
-    let report_bytes = replayed.replay(rt, capture);
-    (replayed.packets(), report_bytes)
+    let engine = started(rt, row.rules);
+    let report = Report::new(rt.alloc(), engine.rules(), row.trace).expect(rt, "memory");
+    let mut sent = Counted::new(Vec::new(rt.alloc()));
+    let sink = Sink::open(rt.alloc(), &mut sent).expect(rt, "a write");
+    let mut replayed = Replayed {
+        engine,
+        report,
+        sink,
+        sent,
+    };
+    let torn = replayed.take_all(rt, capture);
+    let report = replayed.finish(rt, torn);
+    (replayed.sent.into_inner(), report)
 }
 
 /// They are those of `engine::run`.
 fn replays<R: Abort + AllocGlobal + Files>(rt: &R, row: &Row) {
     let capture = bytes(rt, row.capture);
-    let whole = run_over(
-        rt.alloc(),
-        row.rules,
-        BOX,
-        &capture,
-        row.trace,
-        no_failures(99),
-    );
+    let whole = run_over(rt.alloc(), row.rules, BOX, &capture, row.trace, NO_FAILURES);
     assert!(rt; !matches!(whole.status, Status::Memory));
     let (sent, report_bytes) = packets_and_report(rt, row, &capture);
     let name = row.name;

@@ -1,14 +1,12 @@
 //! Shared by the tests of runs: a packet and its records, engines and their steps, runs with slow
 //! and failing calls, and the line of a status.
 use crate::calls::Calls;
-use box_file::Plant;
+use crate::support::checked;
 use conntrack::Tracker;
 use devices::{Failing, Slow};
 use engine::{RunFault, run};
-use nft_parser::parse;
 use pcap_io::{Counted, LinkType, Record};
 use program::Status;
-use rule_check::{Checked, check};
 use std::alloc::Global;
 use std::hash::RandomState;
 use std::io;
@@ -56,7 +54,8 @@ pub fn shows(alloc: Global, status: Status, line: &str) -> bool {
     }
 }
 
-/// A random source that leaves bytes as they are, so that all runs have the same keys.
+/// A random source that leaves bytes as they are, so that all runs have the same hash keys. No result
+/// depends on them.
 struct Fixed;
 
 impl RandomSource for Fixed {
@@ -65,23 +64,9 @@ impl RandomSource for Fixed {
     }
 }
 
-/// The hash keys of the tests. No result depends on them.
-fn hasher() -> io::Result<RandomState> {
-    RandomState::new(&Fixed)
-}
-
-/// The rules, checked for `BOX`; `None` if they are refused, or there was no memory.
-fn checked(alloc: Global, rules: &[u8]) -> Option<Checked> {
-    let network = Plant::read(alloc, BOX).ok()?;
-    match parse(alloc, rules) {
-        Ok(tree) => check(alloc, tree, network).ok(),
-        Err(_) => None,
-    }
-}
-
 /// An engine with these rules, before its first record.
 pub fn started<R: Abort + AllocGlobal, T: Tracker>(rt: &R, rules: &[u8]) -> Engine<T> {
-    let checked = checked(rt.alloc(), rules).expect(rt, "an accepted ruleset");
+    let checked = checked(rt.alloc(), rules, BOX).expect(rt, "an accepted ruleset");
     Engine::new(rt.alloc(), checked).expect(rt, "memory")
 }
 
@@ -114,12 +99,10 @@ pub struct DeviceSettings {
 }
 
 /// No call fails.
-pub fn no_failures(most: usize) -> DeviceSettings {
-    DeviceSettings {
-        most,
-        calls: [usize::MAX; 3],
-    }
-}
+pub const NO_FAILURES: DeviceSettings = DeviceSettings {
+    most: 99,
+    calls: [usize::MAX; 3],
+};
 
 /// The result of a run.
 pub struct RunResult {
@@ -173,7 +156,7 @@ fn status_of<R: Read, W: Write>(
     report: &mut Counted<W>,
     trace: bool,
 ) -> Status {
-    let Ok(hasher) = hasher() else {
+    let Ok(hasher) = RandomState::new(&Fixed) else {
         return Status::of(Err(&RunFault::Device));
     };
     match run(alloc, hasher, rules, network, reader, sent, report, trace) {

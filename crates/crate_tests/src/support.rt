@@ -4,6 +4,7 @@ use compiler::compile;
 use filter_vm::Code;
 use nft_parser::parse;
 use rule_check::{Checked, check};
+use std::alloc::Global;
 use std::process::Abort;
 
 /// UDP from 192.168.1.10:5000 to 198.51.100.7:53, TTL 64.
@@ -32,16 +33,17 @@ pub fn repeated<R: Abort + AllocGlobal>(
         .expect(rt, "memory")
 }
 
-/// The code of a ruleset on a box; `None` if the ruleset is refused.
-pub fn code_of<R: Abort + AllocGlobal>(rt: &R, rules: &[u8], network: &[u8]) -> Option<Code> {
-    let checked = checked(rt, rules, network)?;
-    compile(rt.alloc(), &checked).ok()
+/// The code of a ruleset on a box; `None` if one of them is refused.
+pub fn code_of(alloc: Global, rules: &[u8], network: &[u8]) -> Option<Code> {
+    let checked = checked(alloc, rules, network)?;
+    compile(alloc, &checked).ok()
 }
 
-fn checked<R: Abort + AllocGlobal>(rt: &R, rules: &[u8], network: &[u8]) -> Option<Checked> {
-    let network = Plant::read(rt.alloc(), network).expect(rt, "a box");
-    match parse(rt.alloc(), rules) {
-        Ok(tree) => check(rt.alloc(), tree, network).ok(),
+/// The ruleset, checked for a box; `None` if one of them is refused, or there was no memory.
+pub fn checked(alloc: Global, rules: &[u8], network: &[u8]) -> Option<Checked> {
+    let network = Plant::read(alloc, network).ok()?;
+    match parse(alloc, rules) {
+        Ok(tree) => check(alloc, tree, network).ok(),
         Err(_) => None,
     }
 }
