@@ -1,5 +1,5 @@
 //! What the records of a run show of its connection table.
-use crate::second_run::{MOST_RECORDS, SecondRun, Step};
+use crate::second_run::{SecondRun, Step};
 use history::Cause;
 use std::alloc::{AllocError, Global};
 use std::io::{Read, Write};
@@ -11,8 +11,8 @@ pub struct Fullness {
     pub(crate) records: u64,
     /// The first record behind which the most connections lived; none where none ever did.
     pub(crate) fullest: Option<Step>,
-    /// The addresses that began them, each as often as it did; none where they aren't known yet.
-    pub(crate) initiators: Option<Vec<u32>>,
+    /// The addresses that began them, each as often as it did; none while they aren't known.
+    pub(crate) initiators: Vec<u32>,
     /// The senders of the packets that were dropped for each cause, each as often as it sent one.
     pub(crate) without_port: Vec<u32>,
     pub(crate) without_room: Vec<u32>,
@@ -31,51 +31,46 @@ impl Fullness {
         let mut fullness = Fullness {
             records: 0,
             fullest: None,
-            initiators: None,
+            initiators: Vec::new(alloc),
             without_port: Vec::new(alloc),
             without_room: Vec::new(alloc),
             clashing: Vec::new(alloc),
         };
-        let mut is_fullest = false;
-        for _ in 0..MOST_RECORDS {
-            let Some(step) = run.next()? else {
-                break;
-            };
-            fullness.note(step)?;
-            is_fullest = fullness.is_fullest_behind(step, is_fullest);
-        }
-        if is_fullest {
-            fullness.initiators = Some(run.initiators(alloc)?);
-        }
+        run.fill(alloc, &mut fullness)?;
         Ok(fullness)
     }
 
-    fn note(&mut self, step: Step) -> Result<(), AllocError> {
+    /// Notes a record: whether behind it the same connections live as when they were most, if they
+    /// did before it: none began at it, and none ended where there are as many.
+    pub(crate) fn note(&mut self, step: Step, before: bool) -> Result<bool, AllocError> {
         self.records = step.number;
         if step.is_fullest {
             self.fullest = Some(step);
         }
-        match (step.cause, step.source) {
-            (Some(Cause::NoPort), Some(source)) => self.without_port.push(source)?,
-            (Some(Cause::Full), Some(source)) => self.without_room.push(source)?,
-            (Some(Cause::Clash), Some(source)) => self.clashing.push(source)?,
-            _ => {}
+        if let (Some(cause), Some(source)) = (step.cause, step.source)
+            && let Some(senders) = self.senders(cause)
+        {
+            senders.push(source)?;
         }
-        Ok(())
+        match self.fullest {
+            Some(most) => Ok(step.is_fullest || before && !step.begun && step.live == most.live),
+            None => Ok(false),
+        }
     }
 
-    /// Whether behind a record the same connections live as when they were most, if they did before
-    /// it: none began at it, and none ended where there are as many.
-    fn is_fullest_behind(&self, step: Step, before: bool) -> bool {
-        match self.fullest {
-            Some(fullest) => step.is_fullest || before && !step.begun && step.live == fullest.live,
-            None => false,
+    /// The senders of the packets that were dropped for a cause by which no connection could begin.
+    pub(crate) fn senders(&mut self, cause: Cause) -> Option<&mut Vec<u32>> {
+        match cause {
+            Cause::NoPort => Some(&mut self.without_port),
+            Cause::Full => Some(&mut self.without_room),
+            Cause::Clash => Some(&mut self.clashing),
+            _ => None,
         }
     }
 
     /// Whether `read_again` has to find the hosts.
     pub fn lacks_hosts(&self) -> bool {
-        self.fullest.is_some() && self.initiators.is_none()
+        self.fullest.is_some() && self.initiators.is_empty()
     }
 
     /// Finds the hosts by the same run once more.
@@ -87,15 +82,9 @@ impl Fullness {
         alloc: Global,
         mut run: SecondRun<R, W>,
     ) -> Result<(), AllocError> {
-        let Some(fullest) = self.fullest else {
-            return Ok(());
-        };
-        for _ in 0..fullest.number {
-            if run.next()?.is_none() {
-                break;
-            }
+        match self.fullest {
+            Some(fullest) => run.put_initiators(alloc, fullest.number, &mut self.initiators),
+            None => Ok(()),
         }
-        self.initiators = Some(run.initiators(alloc)?);
-        Ok(())
     }
 }

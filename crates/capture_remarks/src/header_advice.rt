@@ -2,13 +2,26 @@
 ghost use Rattle.std.specs.Io.{ReadsAtMost};
 ghost use Rattle.std.specs.Io.KnownBytes.{ReadConsumes};
 
-use byteorder::{BigEndian, ByteOrder, LittleEndian};
 use pcap_io::CaptureFault;
 use std::io::Read;
 use std::{fmt, io};
 
 /// How many bytes the header of a libpcap file has (pcap-savefile(5)).
 const HEADER_BYTES: usize = 24;
+
+/// The magic numbers of files that aren't read.
+static MAGICS: [(&[u8], HeaderAdvice); 7] = [
+    (b"\x1f\x8b", HeaderAdvice::Decompress(Compression::Gzip)),
+    (b"BZh", HeaderAdvice::Decompress(Compression::Bzip2)),
+    (b"\xfd7zXZ", HeaderAdvice::Decompress(Compression::Xz)),
+    (
+        b"\x28\xb5\x2f\xfd",
+        HeaderAdvice::Decompress(Compression::Zstd),
+    ),
+    (b"\x0a\x0d\x0d\x0a", HeaderAdvice::Convert),
+    (b"\x34\xcd\xb2\xa1", HeaderAdvice::Rewrite),
+    (b"\xa1\xb2\xcd\x34", HeaderAdvice::Rewrite),
+];
 
 /// What to do about a file's header.
 #[derive(Clone, Copy)]
@@ -34,38 +47,35 @@ pub enum Compression {
 
 impl fmt::Display for HeaderAdvice {
     fn fmt<W: fmt::Write>(&self, f: &mut fmt::Formatter<W>) -> fmt::Result {
-        match self {
-            HeaderAdvice::Decompress(by) => {
-                let (name, program) = by.names();
-                write!(f, "It is compressed by {name}: `{program}` it first.")
+        f.write_str(match self {
+            HeaderAdvice::Decompress(by) => by.sentence(),
+            HeaderAdvice::Convert => {
+                "It is pcapng: `editcap -F pcap in.pcapng out.pcap`, or `tcpdump -r in.pcapng -w out.pcap`."
             }
-            HeaderAdvice::Convert => f.write_str(
-                "It is pcapng: `editcap -F pcap in.pcapng out.pcap`, or `tcpdump -r in.pcapng -w out.pcap`.",
-            ),
             HeaderAdvice::Rewrite => {
-                f.write_str(
-                    "It is a libpcap file of another kind: `tcpdump -r in.pcap -w out.pcap`.",
-                )
+                "It is a libpcap file of another kind: `tcpdump -r in.pcap -w out.pcap`."
             }
-            HeaderAdvice::LinkType(113) => f.write_str(
-                "Its link type is 113, LINUX_SLL, which names no interface: capture with `-y LINUX_SLL2`.",
-            ),
-            HeaderAdvice::LinkType(number) => write!(
-                f,
-                "Its link type is {number}: 1 (Ethernet), 101 (raw IP) and 276 (LINUX_SLL2) are read."
-            ),
-        }
+            HeaderAdvice::LinkType(113) => {
+                "Its link type is 113, LINUX_SLL, which names no interface: capture with `-y LINUX_SLL2`."
+            }
+            HeaderAdvice::LinkType(number) => {
+                return write!(
+                    f,
+                    "Its link type is {number}: 1 (Ethernet), 101 (raw IP) and 276 (LINUX_SLL2) are read."
+                );
+            }
+        })
     }
 }
 
 impl Compression {
-    /// The name of what it is compressed with, and of the program that undoes it.
-    fn names(self) -> (&'static str, &'static str) {
+    /// Which program undoes it.
+    fn sentence(self) -> &'static str {
         match self {
-            Compression::Gzip => ("gzip", "gunzip"),
-            Compression::Bzip2 => ("bzip2", "bunzip2"),
-            Compression::Xz => ("xz", "unxz"),
-            Compression::Zstd => ("zstd", "unzstd"),
+            Compression::Gzip => "It is compressed by gzip: `gunzip` it first.",
+            Compression::Bzip2 => "It is compressed by bzip2: `bunzip2` it first.",
+            Compression::Xz => "It is compressed by xz: `unxz` it first.",
+            Compression::Zstd => "It is compressed by zstd: `unzstd` it first.",
         }
     }
 }
@@ -83,26 +93,21 @@ pub fn header_advice<R>(fault: CaptureFault, read: &Noted<R>) -> Option<HeaderAd
 
 /// What to do about a magic number that isn't libpcap's.
 fn magic_advice(first: &[u8]) -> Option<HeaderAdvice> {
-    match first {
-        [0x1f, 0x8b, ..] => Some(HeaderAdvice::Decompress(Compression::Gzip)),
-        [b'B', b'Z', b'h', ..] => Some(HeaderAdvice::Decompress(Compression::Bzip2)),
-        [0xfd, b'7', b'z', b'X', b'Z', ..] => Some(HeaderAdvice::Decompress(Compression::Xz)),
-        [0x28, 0xb5, 0x2f, 0xfd, ..] => Some(HeaderAdvice::Decompress(Compression::Zstd)),
-        [0x0a, 0x0d, 0x0d, 0x0a, ..] => Some(HeaderAdvice::Convert),
-        [0x34, 0xcd, 0xb2, 0xa1, ..] | [0xa1, 0xb2, 0xcd, 0x34, ..] => Some(HeaderAdvice::Rewrite),
-        _ => None,
+    for (magic, advice) in &MAGICS {
+        if first.starts_with(magic) {
+            return Some(*advice);
+        }
     }
+    None
 }
 
 /// The link type of a header: the low 16 bits of its last number, in the byte order of the first.
 fn link_type(first: &[u8; HEADER_BYTES]) -> u32 {
-    let last = &first[20..];
-    let number = if first[0] == 0xa1 {
-        BigEndian::read_u32(last)
+    u32::from(if first[0] == 0xa1 {
+        u16::from_be_bytes([first[22], first[23]])
     } else {
-        LittleEndian::read_u32(last)
-    };
-    number & 0xffff
+        u16::from_le_bytes([first[20], first[21]])
+    })
 }
 
 /// The first bytes of a file; those that weren't read are 0.

@@ -6,7 +6,6 @@
 
 mod fullness;
 mod header_advice;
-mod hosts;
 mod lines;
 mod location;
 mod second_run;

@@ -1,5 +1,5 @@
 //! The lines about a capture.
-use crate::tally::{MissingInterface, Tally};
+use crate::tally::Tally;
 use box_file::Plant;
 use pcap_io::{Capture, Counted};
 use std::alloc::{AllocError, Global};
@@ -24,106 +24,96 @@ pub fn remarks<R: Read + Drop>(
     reader: R,
     network: &Plant,
 ) -> Result<String, AllocError> {
-    let tally = tally_of(alloc, reader, network)?;
+    let mut tally = Tally::new(alloc);
+    tally.read(alloc, reader, network)?;
     let mut lines = String::new(alloc);
-    tally.write_own_sources(path, &mut lines)?;
-    tally.write_missing(path, &mut lines)?;
-    tally.write_ipv6(path, &mut lines)?;
+    tally.write_to(path, &mut lines)?;
     Ok(lines)
 }
 
-/// Counts the first records of a capture.
-fn tally_of<R: Read + Drop>(
-    alloc: Global,
-    reader: R,
-    network: &Plant,
-) -> Result<Tally, AllocError> {
-    let mut tally = Tally::new(alloc);
-    let mut reader = Counted::new(reader);
-    let Ok(mut capture) = Capture::open(alloc, &mut reader) else {
-        return Ok(tally);
-    };
-    for _ in 0..MOST_RECORDS {
-        let Ok(true) = capture.next(&mut reader) else {
-            break;
-        };
-        if let Some(record) = capture.record() {
-            tally.note(&record, network)?;
-        }
-    }
-    Ok(tally)
-}
-
-/// The word for so many.
-fn records(count: u64) -> &'static str {
-    if count == 1 { "record" } else { "records" }
-}
-
-impl MissingInterface {
-    /// Writes the interface and its number of records, behind a comma if others come before.
-    fn write_to(self, is_behind: bool, lines: &mut String) -> Result<(), AllocError> {
-        if is_behind {
-            lines.push_str(", ")?;
-        }
-        let index = self.index;
-        let seen = self.records;
-        write!(lines, "index {index}: {seen}")
-    }
+/// Begins a line about so many records.
+fn begin(path: &str, count: u64, lines: &mut String) -> Result<(), AllocError> {
+    let word = if count == 1 { "record" } else { "records" };
+    write!(lines, "{path}: {count} {word} of ")
 }
 
 impl Tally {
-    /// Writes how many packets come from the box's own addresses.
-    fn write_own_sources(&self, path: &str, lines: &mut String) -> Result<(), AllocError> {
-        let count = self.own_sources;
-        if count == 0 {
+    /// Counts the first records of a capture.
+    fn read<R: Read + Drop>(
+        &mut self,
+        alloc: Global,
+        reader: R,
+        network: &Plant,
+    ) -> Result<(), AllocError> {
+        let mut reader = Counted::new(reader);
+        let Ok(mut capture) = Capture::open(alloc, &mut reader) else {
             return Ok(());
-        }
-        let word = records(count);
-        let of = self.records;
-        write!(
-            lines,
-            "{path}: {count} {word} of {of} from the box's own addresses: what it sent is "
-        )?;
-        writeln!(
-            lines,
-            "replayed as if it came in; capture with tcpdump -Q in"
-        )
+        };
+        self.read_records(&mut capture, &mut reader, network)
     }
 
-    /// Writes how many records are of interfaces that the box file lacks.
-    fn write_missing(&self, path: &str, lines: &mut String) -> Result<(), AllocError> {
-        let count = self.of_missing;
-        if count == 0 {
-            return Ok(());
+    fn read_records<R: Read>(
+        &mut self,
+        capture: &mut Capture,
+        reader: &mut Counted<R>,
+        network: &Plant,
+    ) -> Result<(), AllocError> {
+        for _ in 0..MOST_RECORDS {
+            let Ok(true) = capture.next(reader) else {
+                break;
+            };
+            if let Some(record) = capture.record() {
+                self.note(&record, network)?;
+            }
         }
-        let word = records(count);
-        write!(
-            lines,
-            "{path}: {count} {word} of interfaces that the box file lacks ("
-        )?;
-        for (place, missing) in self.missing.iter().take(MOST_LISTED).enumerate() {
-            missing.write_to(place > 0, lines)?;
+        Ok(())
+    }
+
+    /// Writes a line for each count that isn't 0.
+    fn write_to(&self, path: &str, lines: &mut String) -> Result<(), AllocError> {
+        if self.own_sources > 0 {
+            begin(path, self.own_sources, lines)?;
+            writeln!(
+                lines,
+                "{} from the box's own addresses: what it sent is replayed as if it came in; capture \
+                 with tcpdump -Q in",
+                self.records
+            )?;
         }
-        if self.missing.len() > MOST_LISTED {
+        if self.of_missing > 0 {
+            begin(path, self.of_missing, lines)?;
+            self.write_interfaces(lines)?;
+        }
+        if self.ipv6 > 0 {
+            begin(path, self.ipv6, lines)?;
+            self.write_share(lines)?;
+        }
+        Ok(())
+    }
+
+    /// Writes the first interfaces that the box file lacks, each with its number of records.
+    fn write_interfaces(&self, lines: &mut String) -> Result<(), AllocError> {
+        let listed = self.missing.len().min(MOST_LISTED);
+        let mut between = "interfaces that the box file lacks (";
+        for missing in &self.missing[..listed] {
+            write!(
+                lines,
+                "{between}index {}: {}",
+                missing.index, missing.records
+            )?;
+            between = ", ";
+        }
+        if listed < self.missing.len() {
             lines.push_str(", ..")?;
         }
-        writeln!(lines, "): dropped for `interface`")
+        lines.push_str("): dropped for `interface`\n")
     }
 
-    /// Writes how many records are IPv6.
-    fn write_ipv6(&self, path: &str, lines: &mut String) -> Result<(), AllocError> {
-        let count = self.ipv6;
-        let of = self.records;
-        if count == 0 || of == 0 {
-            return Ok(());
-        }
-        let word = records(count);
-        let tenths = count.saturating_mul(1000) / of;
+    /// Writes how much of all records is IPv6.
+    fn write_share(&self, lines: &mut String) -> Result<(), AllocError> {
+        let tenths = self.ipv6.saturating_mul(1000) / self.records.max(1);
         let whole = tenths / 10;
         let rest = tenths % 10;
-        writeln!(
-            lines,
-            "{path}: {count} {word} of IPv6, {whole}.{rest} % of all: no rule sees them"
-        )
+        writeln!(lines, "IPv6, {whole}.{rest} % of all: no rule sees them")
     }
 }

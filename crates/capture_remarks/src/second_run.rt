@@ -1,4 +1,5 @@
 //! A run of the same files once more.
+use crate::fullness::Fullness;
 use crate::tally::source_of;
 use engine::{Passed as Outcome, Rerun, RunFault};
 use history::Cause;
@@ -57,17 +58,15 @@ impl<R: Read + Drop, W: Write + Drop> SecondRun<R, W> {
     ) -> Option<SecondRun<R, W>> {
         let mut capture = Counted::new(capture);
         let mut lost = Counted::new(lost);
-        let opened = Rerun::open(
+        let run = Rerun::open(
             alloc,
             hasher,
             texts.rules,
             texts.network,
             &mut capture,
             &mut lost,
-        );
-        let Ok(run) = opened else {
-            return None;
-        };
+        )
+        .ok()?;
         Some(SecondRun { run, capture, lost })
     }
 
@@ -77,40 +76,72 @@ impl<R: Read + Drop, W: Write + Drop> SecondRun<R, W> {
     /// `AllocError` for want of memory.
     pub(crate) fn next(&mut self) -> Result<Option<Step>, AllocError> {
         match self.run.next(&mut self.capture, &mut self.lost) {
-            Ok(true) => Ok(self.step()),
+            Ok(true) => Ok(last_step(&self.run)),
             Err(RunFault::Memory) => Err(AllocError),
             _ => Ok(None),
         }
     }
 
-    /// What became of the last record.
-    fn step(&self) -> Option<Step> {
-        let record = self.run.record()?;
-        let engine = self.run.engine();
-        let entry = engine.entry()?;
-        let cause = match entry.outcome {
-            Outcome::Dropped(cause) => Some(cause),
-            Outcome::Passed(_) | Outcome::Local => None,
-        };
-        Some(Step {
-            number: entry.number,
-            moment: record.moment,
-            live: engine.live(),
-            is_fullest: self.run.fullest().number == entry.number,
-            begun: entry.begun,
-            cause,
-            source: source_in(&record),
-        })
+    /// Notes the next records, and which hosts began the connections alive behind them if these are
+    /// the most.
+    pub(crate) fn fill(&mut self, alloc: Global, into: &mut Fullness) -> Result<(), AllocError> {
+        let mut is_fullest = false;
+        for _ in 0..MOST_RECORDS {
+            let Some(step) = self.next()? else {
+                break;
+            };
+            is_fullest = into.note(step, is_fullest)?;
+        }
+        if is_fullest {
+            return put_initiators(alloc, &self.run, &mut into.initiators);
+        }
+        Ok(())
     }
 
-    /// The addresses that began the connections alive now, each as often as it did.
-    pub(crate) fn initiators(&self, alloc: Global) -> Result<Vec<u32>, AllocError> {
-        let mut addresses = Vec::new(alloc);
-        for connection in self.run.engine().connections(alloc)?.iter() {
-            addresses.push(connection.original.source.address)?;
+    /// Steps through so many more records, and notes which hosts began the connections alive then.
+    pub(crate) fn put_initiators(
+        &mut self,
+        alloc: Global,
+        records: u64,
+        addresses: &mut Vec<u32>,
+    ) -> Result<(), AllocError> {
+        for _ in 0..records {
+            if self.next()?.is_none() {
+                break;
+            }
         }
-        Ok(addresses)
+        put_initiators(alloc, &self.run, addresses)
     }
+}
+
+/// Replaces the addresses by those that began the connections alive now, each as often as it did.
+fn put_initiators(alloc: Global, run: &Rerun, addresses: &mut Vec<u32>) -> Result<(), AllocError> {
+    addresses.clear();
+    let connections = run.engine().connections(alloc)?;
+    for connection in &connections {
+        addresses.push(connection.original.source.address)?;
+    }
+    Ok(())
+}
+
+/// What became of the last record of a run.
+fn last_step(run: &Rerun) -> Option<Step> {
+    let record = run.record()?;
+    let engine = run.engine();
+    let entry = engine.entry()?;
+    let cause = match entry.outcome {
+        Outcome::Dropped(cause) => Some(cause),
+        _ => None,
+    };
+    Some(Step {
+        number: entry.number,
+        moment: record.moment,
+        live: engine.live(),
+        is_fullest: run.fullest().number == entry.number,
+        begun: entry.begun,
+        cause,
+        source: source_in(&record),
+    })
 }
 
 /// The source address of a record's packet.

@@ -56,15 +56,15 @@ impl Tally {
         let Ok(link) = record.link() else {
             return Ok(());
         };
-        if let Some(index) = link.interface {
-            if network.name(index).is_none() {
-                return self.note_missing(index);
-            }
+        if let Some(index) = link.interface
+            && network.name(index).is_none()
+        {
+            return self.note_missing(index);
         }
-        if let Some(source) = source_of(&record.bytes[link.packet..]) {
-            if network.is_own(source) {
-                self.own_sources = self.own_sources.saturating_add(1);
-            }
+        if let Some(source) = source_of(&record.bytes[link.packet..])
+            && network.is_own(source)
+        {
+            self.own_sources = self.own_sources.saturating_add(1);
         }
         Ok(())
     }
@@ -87,15 +87,12 @@ impl Tally {
 /// Whether a record has an IPv6 packet.
 fn is_ipv6(record: &Record<'_>) -> bool {
     let bytes = record.bytes;
-    match record.link_type {
-        LinkType::Ethernet => bytes.len() >= 14
-            && BigEndian::read_u16(&bytes[12..]) == ETHERTYPE_IPV6,
-        LinkType::Sll2 => bytes.len() >= 2 && BigEndian::read_u16(bytes) == ETHERTYPE_IPV6,
-        LinkType::Raw => match bytes.first() {
-            Some(first) => *first / 16 == 6,
-            None => false,
-        },
-    }
+    let protocol = match record.link_type {
+        LinkType::Ethernet => 12,
+        LinkType::Sll2 => 0,
+        LinkType::Raw => return !bytes.is_empty() && bytes[0] / 16 == 6,
+    };
+    bytes.len() >= protocol + 2 && BigEndian::read_u16(&bytes[protocol..]) == ETHERTYPE_IPV6
 }
 
 /// The source address of an IPv4 packet.
