@@ -1,5 +1,6 @@
 //! What is around a fault of a ruleset.
-use crate::names::{Kind, declares, item_named};
+use crate::names::{Kind, item_named};
+use advice::lists;
 use fault_nodes::Node;
 use fault_places::{Words, tokens_around};
 use nft_lexer::Token;
@@ -55,14 +56,6 @@ impl<'a> Around<'a> {
         }))
     }
 
-    /// Whether it is in the declaration of this.
-    pub fn is_in(&self, kind: Kind, name: &str) -> bool {
-        match self.item {
-            Some(item) => declares(item, kind, name),
-            None => false,
-        }
-    }
-
     /// The word at the place.
     pub fn here(&self) -> &'a str {
         self.words.get(self.at)
@@ -73,11 +66,22 @@ impl<'a> Around<'a> {
         self.words.before(self.at, places)
     }
 
+    /// The number of the last word before it that is one of these, with a blank between two.
+    pub fn last_of(&self, words: &str) -> Option<usize> {
+        for places in 1..self.at.saturating_add(1) {
+            if lists(words, self.before(places)) {
+                return self.at.checked_sub(places);
+            }
+        }
+        None
+    }
+
     /// The set or map that a rule names at the place, or else the declaration that it is in outside
     /// of rules.
     pub fn set(&self) -> Option<&'a Item> {
         if self.before(1) == "@" {
-            return item_named(self.table, Kind::Set, self.here());
+            let number = item_named(self.table, Kind::Set, self.here())?;
+            return self.table.items.get(number);
         }
         if self.is_in_rule { None } else { self.item }
     }

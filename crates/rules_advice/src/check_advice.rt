@@ -6,7 +6,8 @@ use crate::type_advice::type_advice;
 use crate::types::Types;
 use crate::value_advice::{put_unread, value_advice};
 use advice::{
-    Advice, Gap, VERDICTS, begins_match, fixed, greatest_is, lists, with_text, with_texts,
+    Advice, Gap, VERDICTS, begins_match, fixed, greatest_is, lists, put_known, with_text,
+    with_texts,
 };
 use fault_nodes::FaultyNode;
 use rule_check::CheckFault;
@@ -46,10 +47,8 @@ fn put_advice(
     if matches!(fault, CheckFault::WrongValue) && put_unread(alloc, around, &types, lines)? {
         return Ok(());
     }
-    match check_advice(around, fault, &names, &types) {
-        Some(advice) => advice.put(alloc, lines),
-        None => Ok(()),
-    }
+    put_known(alloc, check_advice(around, fault, &names, &types), lines)?;
+    Ok(())
 }
 
 /// What to do about a fault, if it is known.

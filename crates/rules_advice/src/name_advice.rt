@@ -1,9 +1,8 @@
 //! What to do about a name that isn't declared.
 use crate::around::Around;
-use crate::names::{Kind, declared, interfaces, item_named};
+use crate::names::{Kind, declared, declares, interfaces, item_named};
 use advice::{
-    Advice, DID_YOU_MEAN, DID_YOU_MEAN_ONE_OF, Gap, NO_GAP, filled, fixed, lists, with_text,
-    with_texts,
+    Advice, DID_YOU_MEAN, DID_YOU_MEAN_ONE_OF, Gap, NO_GAP, filled, fixed, with_text, with_texts,
 };
 use nft_tree::Item;
 use rule_check::CheckFault;
@@ -27,7 +26,7 @@ pub fn names_wanted<'a>(
         if let Some((found, name)) = declared(item)
             && found == kind
             && !is_base
-            && !around.is_in(kind, name)
+            && !matches!(around.item, Some(own) if declares(own, kind, name))
         {
             names.push(name)?;
         }
@@ -38,14 +37,12 @@ pub fn names_wanted<'a>(
 /// The one of these names that may be meant by one that isn't declared.
 pub fn name_advice<'a>(around: &Around<'a>, fault: CheckFault, names: &'a [&'a str]) -> Advice<'a> {
     let (here, words) = (around.here(), Gap::Words(names));
-    if matches!(fault, CheckFault::NoSuchChain) {
-        return no_chain(around, names).unless_near(here, words, DID_YOU_MEAN);
-    }
-    if matches!(fault, CheckFault::NoSuchSet) {
-        return no_set(names).unless_near(here, words, "Did you mean `@{}`?");
-    }
     let name = here.split('"').nth(1).unwrap_or(here);
-    no_interface(around, name, names).unless_near(name, words, DID_YOU_MEAN_ONE_OF)
+    match fault {
+        CheckFault::NoSuchChain => no_chain(around, names).unless_near(here, words, DID_YOU_MEAN),
+        CheckFault::NoSuchSet => no_set(names).unless_near(here, words, "Did you mean `@{}`?"),
+        _ => no_interface(around, name, names).unless_near(name, words, DID_YOU_MEAN_ONE_OF),
+    }
 }
 
 /// What to do about the name of a set or a map that isn't one of these.
@@ -76,16 +73,10 @@ fn no_chain<'a>(around: &Around<'a>, names: &'a [&'a str]) -> Advice<'a> {
 /// What to do about the name of an interface that isn't one of these.
 fn no_interface<'a>(around: &Around<'a>, name: &'a str, names: &'a [&'a str]) -> Advice<'a> {
     // The one by the index of an interface, where a name stands behind it.
-    let mut selector = "";
-    for number in 0..around.at {
-        let word = around.words.get(number);
-        if lists("iif oif", word) && around.here().parse::<u64>().is_err() {
-            selector = word;
-        }
-    }
-    if selector.is_empty() {
-        return known_names("Interfaces of the box", names);
-    }
+    let selector = match around.last_of("iif oif") {
+        Some(number) if around.here().parse::<u64>().is_err() => around.words.get(number),
+        _ => return known_names("Interfaces of the box", names),
+    };
     if around.before(1) == selector {
         return with_texts(
             "Write `{}name \"{}\"`: it compares names, and asks for no interface on the box.",

@@ -23,17 +23,14 @@ pub fn declared(item: &Item) -> Option<(Kind, &str)> {
 
 /// Whether an item declares this.
 pub fn declares(item: &Item, kind: Kind, name: &str) -> bool {
-    match declared(item) {
-        Some((own_kind, own_name)) => own_kind == kind && own_name == name,
-        None => false,
-    }
+    declared(item) == Some((kind, name))
 }
 
-/// The first item of a table that declares this.
-pub fn item_named<'a>(table: &'a Table, kind: Kind, name: &str) -> Option<&'a Item> {
-    for item in &table.items {
+/// The number of the first item of a table that declares this.
+pub fn item_named(table: &Table, kind: Kind, name: &str) -> Option<usize> {
+    for (number, item) in table.items.iter().enumerate() {
         if declares(item, kind, name) {
-            return Some(item);
+            return Some(number);
         }
     }
     None

@@ -1,11 +1,11 @@
 //! What to do about types that don't fit.
 use crate::around::Around;
-use crate::types::{Types, values_of};
+use crate::types::{ADDRESS, MARK, SERVICE, Types, values_of};
 use advice::{
     Advice, DID_YOU_MEAN_ONE_OF, Gap, NO_GAP, VERDICTS, filled, fixed, groups_advice, lists,
     no_value, one_of, with_text, with_words,
 };
-use nft_tree::{ComparedType, Item, ValueType};
+use nft_tree::{ComparedType, Item};
 
 /// What to do about types that don't fit, if it is known.
 pub fn type_advice<'a>(around: &Around<'a>, types: &'a Types) -> Option<Advice<'a>> {
@@ -118,26 +118,12 @@ fn advice_on_rule<'a>(around: &Around<'a>, types: &Types) -> Option<Advice<'a>> 
         ));
     }
     let of = *types.compared.last()?;
-    let has_order = matches!(
-        of,
-        ComparedType::Unnamed(_)
-            | ComparedType::Named(ValueType::Address | ValueType::Service | ValueType::Mark)
-    );
-    if has_order && has_order_before(around) {
+    let has_order = matches!(of, ADDRESS | SERVICE | MARK | ComparedType::Unnamed(_));
+    if has_order && around.last_of("< > <= >=").is_some() {
         return Some(fixed(
             "An order compares with one value: write `==` before a range or a prefix.",
         ));
     }
     let sentence = "{} has no order: compare with `==`, `!=` or a set.";
     Some(with_words(sentence, Gap::Type(of)))
-}
-
-/// Whether an order stands before the place.
-fn has_order_before(around: &Around<'_>) -> bool {
-    for number in 0..around.at {
-        if matches!(around.words.get(number), "<" | ">" | "<=" | ">=") {
-            return true;
-        }
-    }
-    false
 }

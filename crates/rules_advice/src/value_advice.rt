@@ -46,15 +46,14 @@ fn values_advice<'a>(around: &Around<'a>, types: &[ComparedType]) -> Option<Advi
 /// What to do about the value, the range or the prefix that begins at a word, if it isn't of a type.
 fn part_advice<'a>(words: &Words<'a>, of: ComparedType, first: usize) -> Option<Advice<'a>> {
     let (start, last) = (words.get(first), words.get(first.saturating_add(2)));
-    let mark = words.get(first.saturating_add(1));
-    if mark == "/" {
-        return prefix_advice(of, last);
+    match (words.get(first.saturating_add(1)), last.parse::<u64>()) {
+        ("/", _) if of != ADDRESS => Some(fixed("Only addresses have prefixes: write a range.")),
+        ("/", Ok(33..)) => Some(greatest_is(Gap::Text("length of a prefix"), 32)),
+        ("/", _) => None,
+        ("-", _) if is_reversed(start, last) => Some(with_texts("Write `{}-{}`.", last, start)),
+        ("-", _) => word_advice(of, start).or(word_advice(of, last)),
+        _ => word_advice(of, start),
     }
-    if mark == "-" && is_reversed(start, last) {
-        return Some(with_texts("Write `{}-{}`.", last, start));
-    }
-    let is_last_wrong = mark == "-" && word_advice(of, start).is_none();
-    word_advice(of, if is_last_wrong { last } else { start })
 }
 
 /// Whether the first of two numbers or addresses is greater.
@@ -76,15 +75,6 @@ fn parts_before(around: &Around<'_>) -> usize {
         }
     }
     parts
-}
-
-/// What to do about a prefix of this length.
-fn prefix_advice<'a>(of: ComparedType, length: &str) -> Option<Advice<'a>> {
-    match length.parse::<u64>() {
-        _ if of != ADDRESS => Some(fixed("Only addresses have prefixes: write a range.")),
-        Ok(33..) => Some(greatest_is(Gap::Text("length of a prefix"), 32)),
-        _ => None,
-    }
 }
 
 /// What to do about a word that is no value of a type; none where it is one.
@@ -196,12 +186,15 @@ fn unread_words<'a>(
     around: &Around<'a>,
     of: ComparedType,
 ) -> Result<Vec<(&'a str, &'static str)>, AllocError> {
+    let Some(brace) = around.last_of("{") else {
+        return Ok(Vec::new(alloc));
+    };
     let (mut unread, mut others) = (Vec::new(alloc), Vec::new(alloc));
     let known = names(alloc, constants(of))?;
     if known.is_empty() {
         return Ok(unread);
     }
-    for number in first_of_list(around)..around.words.len() {
+    for number in brace.saturating_add(1)..around.words.len() {
         match around.words.get(number) {
             "}" | ":" => break,
             word if is_word(word) && !known.contains(&word) => match nearest(alloc, word, &known)? {
@@ -213,16 +206,6 @@ fn unread_words<'a>(
     }
     unread.extend_from_slice(&others)?;
     Ok(unread)
-}
-
-/// The number of the first word of the list around a place; that of no word where there is none.
-fn first_of_list(around: &Around<'_>) -> usize {
-    for places in 1..around.at.saturating_add(1) {
-        if around.before(places) == "{" {
-            return around.at.saturating_sub(places).saturating_add(1);
-        }
-    }
-    around.words.len()
 }
 
 fn is_word(word: &str) -> bool {
