@@ -1,6 +1,5 @@
 //! What nft(8) refuses of the heads of base chains, and what Linux does otherwise by them.
 use crate::findings::Findings;
-use crate::warning;
 use nft_tree::{Chain, ChainKind, Head, Hook, Policy, Priority, PriorityName};
 use node_spans::TokenRange;
 use std::alloc::AllocError;
@@ -71,14 +70,20 @@ impl Findings<'_> {
         let place = self.tokens.find(range, b"priority").unwrap_or(range.first);
         let priority = head.priority.number();
         if is_misplaced_name(head) {
-            self.add(place, warning::PRIORITY_NAME);
+            let warning =
+                "nft takes `dstnat` on prerouting alone and `srcnat` on postrouting alone: write the number";
+            self.add(place, warning);
         }
         if is_early(head) && priority == LOOKUP {
-            self.add(place, warning::EARLY_PRIORITY);
+            let warning =
+                "here a chain of priority -200 runs before connections are looked up, on Linux it may run after: take -199 or -201";
+            self.add(place, warning);
         }
         let does_something = !chain.rules.is_empty() || matches!(head.policy, Some(Policy::Drop));
         if matches!(head.hook, Hook::Output) && does_something {
-            self.add_at_word(range, b"type", warning::OUTPUT_CHAIN);
+            let warning =
+                "here chains on output never run, on Linux they see what the box sends itself";
+            self.add_at_word(range, b"type", warning);
         }
         self.chains.push(BaseChain {
             is_nat: matches!(head.kind, ChainKind::Nat),
@@ -95,10 +100,14 @@ impl Findings<'_> {
         for (number, chain) in chains.iter().enumerate() {
             let (mut earlier, mut all) = (chains.iter().take(number), chains.iter());
             if earlier.any(|other| chain.shares_place(*other)) {
-                self.add(chain.place, warning::SAME_PRIORITY);
+                let warning =
+                    "another base chain of this hook has this priority: here the first in the text runs first, on Linux the last";
+                self.add(chain.place, warning);
             }
             if chain.is_at_step() && all.any(|other| other.is_nat && chain.shares_hook(*other)) {
-                self.add(chain.place, warning::NAT_PRIORITY);
+                let warning =
+                    "a chain of just the priority at which addresses are translated: here it runs behind that, on Linux it may run before";
+                self.add(chain.place, warning);
             }
         }
         Ok(())

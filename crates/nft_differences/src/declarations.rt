@@ -1,9 +1,10 @@
 //! The tables, chains, sets and maps of a ruleset, each beside its tokens.
-use crate::findings::Findings;
-use crate::warning;
+use crate::findings::{Findings, Warning};
 use nft_tree::{Chain, Item, Ruleset, Table};
 use node_spans::{TokenRange, items, rules, tables};
 use std::alloc::AllocError;
+
+const SECOND_COMMENT: Warning = "nft takes one comment here, and refuses a second";
 
 impl Findings<'_> {
     /// Adds the warnings of the ruleset that all of the tokens spell.
@@ -21,7 +22,7 @@ impl Findings<'_> {
         let mut has_comment = false;
         for (item, place) in table.items.iter().zip(&places) {
             match item {
-                Item::Comment(_) if has_comment => self.add(place.first, warning::SECOND_COMMENT),
+                Item::Comment(_) if has_comment => self.add(place.first, SECOND_COMMENT),
                 Item::Comment(_) => has_comment = true,
                 Item::Chain(chain) => self.judge_chain(table, chain, *place)?,
                 Item::Set(set) => self.judge_set(set, *place)?,
@@ -59,7 +60,7 @@ impl Findings<'_> {
         for index in self.tokens.inside(chain).start..rules_start {
             let is_comment = self.tokens.is(index, b"comment");
             if is_comment && has_comment {
-                self.add(index, warning::SECOND_COMMENT);
+                self.add(index, SECOND_COMMENT);
             }
             has_comment = has_comment || is_comment;
         }

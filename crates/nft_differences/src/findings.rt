@@ -1,8 +1,7 @@
 //! The warnings of a text, in its order, and where its rules are.
 use crate::chains::BaseChain;
 use crate::tokens::Tokens;
-use crate::warning::Warning;
-use fault_places::{position_at, tokens_of};
+use fault_places::{Position, position_at, tokens_of};
 use nft_lexer::{LexError, Token, lex};
 use nft_rulesets::ruleset;
 use node_spans::TokenRange;
@@ -11,12 +10,8 @@ use std::alloc::{AllocError, Global};
 /// The most warnings that are written.
 const MOST: usize = 1000;
 
-/// A warning, and the offset at which it is.
-#[derive(Clone, Copy)]
-struct Finding {
-    offset: usize,
-    warning: Warning,
-}
+/// What nft(8) 1.0.6 refuses of an accepted ruleset, or means otherwise: a sentence, without its end.
+pub(crate) type Warning = &'static str;
 
 /// What is found in a text.
 #[derive(Drop)]
@@ -27,8 +22,8 @@ pub(crate) struct Findings<'a> {
     pub chains: Vec<BaseChain>,
     /// The offsets at which the rules so far begin.
     pub rules: Vec<usize>,
-    /// With room for the most from the start.
-    found: Vec<Finding>,
+    /// The warnings, each behind its offset; with room for the most from the start.
+    found: Vec<(usize, Warning)>,
 }
 
 impl<'a> Findings<'a> {
@@ -55,7 +50,7 @@ impl<'a> Findings<'a> {
     /// Adds a warning at an offset.
     pub(crate) fn add_at(&mut self, offset: usize, warning: Warning) {
         if self.found.len() < self.found.capacity() {
-            self.found.push_reserved(Finding { offset, warning });
+            self.found.push_reserved((offset, warning));
         }
     }
 
@@ -68,12 +63,11 @@ impl<'a> Findings<'a> {
 
     /// Writes one line for each warning, in the order of the text.
     fn write_to(&mut self, lines: &mut String, path: &str) -> Result<(), AllocError> {
-        self.found.sort_by_key(|finding| finding.offset)?;
+        self.found.sort_by_key(|found| found.0)?;
         let text = self.tokens.text;
-        for finding in &self.found {
-            let place = position_at(text, finding.offset.min(text.len()));
-            write!(lines, "{path}:{}:{}: warning: ", place.line, place.column)?;
-            writeln!(lines, "{}", finding.warning)?;
+        for &(offset, warning) in &self.found {
+            let Position { line, column, .. } = position_at(text, offset.min(text.len()));
+            writeln!(lines, "{path}:{line}:{column}: warning: {warning}")?;
         }
         Ok(())
     }

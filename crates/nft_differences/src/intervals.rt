@@ -34,10 +34,7 @@ fn name_number(name: &[u8], filler: u8) -> u128 {
 /// What a name with a last `*` has before it.
 pub(crate) fn wildcard_stem(value: &Value) -> Option<&[u8]> {
     match value {
-        Value::String(text) => match text.as_slice() {
-            [stem @ .., b'*'] => Some(stem),
-            _ => None,
-        },
+        Value::String(text) => text.as_slice().strip_suffix(b"*"),
         _ => None,
     }
 }

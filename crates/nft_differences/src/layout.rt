@@ -1,8 +1,7 @@
 //! What nft(8) refuses of a text's layout: ends, newlines, blanks, names and comments.
-use crate::findings::Findings;
-use crate::names::is_reserved;
+use crate::findings::{Findings, Warning};
+use crate::names::{RESERVED_NAME, is_reserved};
 use crate::tokens::Tokens;
-use crate::warning;
 use nft_lexer::TokenKind;
 use node_spans::TokenRange;
 
@@ -11,11 +10,14 @@ const MOST_OF_COMMENT: usize = 130;
 
 const MOST_OF_NAME: usize = 255;
 
+const MISSING_END: Warning = "nft wants a newline or `;` here";
+
 impl Findings<'_> {
     /// Adds the warnings about single tokens, and about newlines in lists.
     pub(crate) fn judge_tokens(&mut self) {
         if let Some(offset) = carriage_return(self.tokens.text) {
-            self.add_at(offset, warning::CARRIAGE_RETURN);
+            let warning = "nft refuses a carriage return outside comments and strings";
+            self.add_at(offset, warning);
         }
         let mut depth = 0usize;
         for index in 0..self.tokens.all.len() {
@@ -24,7 +26,9 @@ impl Findings<'_> {
                 b"{" => depth = depth.saturating_add(1),
                 b"}" => depth = depth.saturating_sub(1),
                 b"\n" if depth > 2 && !may_be_in_list(self.tokens, index) => {
-                    self.add(index, warning::NEWLINE_IN_LIST);
+                    let warning =
+                        "nft refuses this newline: in a list one may stand behind `{`, and on either side of a comma";
+                    self.add(index, warning);
                 }
                 _ => {}
             }
@@ -39,64 +43,62 @@ impl Findings<'_> {
             return;
         };
         let there = token.text;
-        match token.kind {
+        let warning = match token.kind {
             TokenKind::String if tokens.is(index, b"comment") && there.len() > MOST_OF_COMMENT => {
-                self.add(next, warning::LONG_COMMENT);
+                "nft refuses comments of more than 128 bytes"
             }
             TokenKind::String if tokens.is(index, b"prefix") && there.contains(&b'$') => {
-                self.add(next, warning::PREFIX_VARIABLE);
+                "nft reads a variable behind `$` in a log prefix, and refuses it"
             }
-            _ if !tokens.gap(next).is_empty() => {}
+            _ if !tokens.gap(next).is_empty() => return,
             _ if tokens.is(index, b".") && continues_word(there) => {
-                self.add(index, warning::TIGHT_DOT);
+                "nft refuses a `.` without a blank behind it"
             }
             TokenKind::Number(_) if tokens.is(index, b":") && is_class(tokens, index) => {
-                self.add(index, warning::TIGHT_COLON);
+                "nft refuses a `:` between two numbers without a blank beside it"
             }
             TokenKind::Word
                 if is_decimal(tokens.bytes(index))
                     && matches!(there, [b'd' | b'h' | b'm' | b's', ..]) => {
-                self.add(index, warning::TIGHT_UNIT);
+                "nft reads this number and the letter behind it as a time: write a blank between them"
             }
-            _ => {}
-        }
+            _ => return,
+        };
+        let is_string = matches!(token.kind, TokenKind::String);
+        self.add(if is_string { next } else { index }, warning);
     }
 
     /// Adds what is wrong with the name and the closing brace of a table, a chain, a set or a map.
     pub(crate) fn judge_braces(&mut self, range: TokenRange, is_chain: bool) {
         let name = self.tokens.inside(range).start.saturating_sub(2);
         if is_reserved(self.tokens.bytes(name)) {
-            self.add(name, warning::RESERVED_NAME);
+            self.add(name, RESERVED_NAME);
         }
         if self.tokens.bytes(name).len() > MOST_OF_NAME {
-            self.add(name, warning::LONG_NAME);
+            self.add(name, "nft refuses names of more than 255 bytes");
         }
         let close = range.end.saturating_sub(1);
         match self.tokens.bytes(close.saturating_sub(1)) {
             b"{" | b"\n" | b";" => {}
             b"}" | b"auto-merge" if !is_chain => {}
-            _ => self.add(close, warning::MISSING_END),
+            _ => self.add(close, MISSING_END),
         }
         match self.tokens.bytes(range.end) {
             b"\n" | b";" | b"" => {}
-            _ => self.add(range.end, warning::MISSING_END),
+            _ => self.add(range.end, MISSING_END),
         }
     }
 }
 
 /// The first carriage return outside strings and comments.
 fn carriage_return(text: &[u8]) -> Option<usize> {
-    let mut quoted = false;
-    let mut comment = false;
+    // The mark that begins the string or the comment around a byte.
+    let mut mark = None;
     for (offset, byte) in text.iter().enumerate() {
-        match *byte {
-            b'\n' => {
-                quoted = false;
-                comment = false;
-            }
-            b'"' if !comment => quoted = !quoted,
-            b'#' if !quoted => comment = true,
-            b'\r' if !quoted && !comment => return Some(offset),
+        match (*byte, mark) {
+            (b'\n', _) | (b'"', Some(b'"')) => mark = None,
+            (b'"' | b'#', None) => mark = Some(*byte),
+            (b'\r', None) => return Some(offset),
             _ => {}
         }
     }

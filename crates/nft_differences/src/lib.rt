@@ -16,6 +16,5 @@ mod protocols;
 mod rules;
 mod sets;
 mod tokens;
-mod warning;
 
 pub use findings::{rule_offsets, warnings};

@@ -1,4 +1,5 @@
 //! Words of nft's grammar that can't be names in a text for its version 1.0.6.
+use crate::findings::Warning;
 
 /// Words that can't be a name anywhere, as one text: a table of so many texts takes the prover long.
 const WORDS: &str = "
@@ -20,6 +21,8 @@ const PROTOCOL_WORDS: &str =
 
 /// Words that can be the name of an interface alone.
 const FAMILY_WORDS: &str = "arp dnat ecn ether ip ip6 reset snat vlan";
+
+pub(crate) const RESERVED_NAME: Warning = "nft refuses this name: it is a word of its grammar";
 
 /// Whether a table, a chain, a set or a map can't have this name.
 pub(crate) fn is_reserved(name: &[u8]) -> bool {

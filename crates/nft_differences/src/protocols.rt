@@ -1,6 +1,6 @@
 //! What nft(8) knows of a rule's packets from left to right: their family and transport protocol.
+use crate::findings::Warning;
 use crate::intervals::number_of;
-use crate::warning::{self, Warning};
 use nft_tree::{Family, Selector, Value};
 
 const ICMP: u128 = 1;
@@ -73,13 +73,17 @@ impl Protocols {
             | Selector::IpProtocol
             | Selector::IpTtl
             | Selector::IpLength => match self.network {
-                Network::Ipv6 | Network::Other => return Some(warning::FAMILY_CONFLICT),
+                Network::Ipv6 | Network::Other => return Some(
+                    "nft refuses IPv4 in a rule for another family",
+                ),
                 Network::Any | Network::Ipv4 => self.network = Network::Ipv4,
             },
             Selector::IcmpType if matches!(self.network, Network::Any) && !self.has_transport() => {
                 self.network = Network::Ipv4;
             }
-            Selector::MetaFamily if !self.is_inet => return Some(warning::FAMILY_IN_IP_TABLE),
+            Selector::MetaFamily if !self.is_inet => return Some(
+                "nft refuses `meta nfproto` in a table of family ip",
+            ),
             _ => {}
         }
         self.add_transport(transport_of(selector)?)
@@ -92,7 +96,7 @@ impl Protocols {
             Transport::One(known) if known == protocol => {}
             Transport::One(_) | Transport::Several => {
                 self.transport = Transport::Several;
-                return Some(warning::PROTOCOL_CONFLICT);
+                return Some("nft refuses a rule that speaks of two protocols");
             }
         }
         None
@@ -125,8 +129,10 @@ impl Protocols {
     /// What nft refuses of `snat` or `dnat`; `named` says whether `ip` is before its `to`.
     pub(crate) fn judge_nat(self, named: bool) -> Option<Warning> {
         match self.network {
-            Network::Ipv6 => Some(warning::NAT_OF_IPV6),
-            Network::Any | Network::Other if !named => Some(warning::NAT_WITHOUT_FAMILY),
+            Network::Ipv6 => Some("nft refuses an IPv4 address in a rule for another family"),
+            Network::Any | Network::Other if !named => Some(
+                "nft wants `ip` before `to` in a table of family inet",
+            ),
             _ => None,
         }
     }

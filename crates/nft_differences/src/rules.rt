@@ -1,10 +1,9 @@
 //! What nft(8) refuses of rules, or means otherwise by them.
 use crate::chains::is_early;
-use crate::findings::Findings;
+use crate::findings::{Findings, Warning};
 use crate::ports::{is_of_ports, ports_start, selectors_of};
 use crate::protocols::Protocols;
 use crate::tokens::Tokens;
-use crate::warning::{self, Warning};
 use nft_expressions::anysel;
 use nft_tree::{
     BitField, BitTest, Chain, DestinationTarget, Hook, Key, MapRef, Match, Nat, Operand, Operator,
@@ -12,6 +11,9 @@ use nft_tree::{
 };
 use node_spans::{TokenRange, statements};
 use std::alloc::AllocError;
+
+const WHOLE_STATUS: Warning =
+    "Linux sets more bits of the status (confirmed, assured) than are compared here: write `ct status WORD`";
 
 /// A rule that is read from left to right, beside its tokens.
 #[derive(Drop)]
@@ -47,8 +49,7 @@ impl Findings<'_> {
             None => (false, None),
         };
         let ports_start = ports_start(table, &rule.statements);
-        let start = self.tokens.offset(range.first);
-        self.rules.push(start)?;
+        self.rules.push(self.tokens.offset(range.first))?;
         let mut walk = Walk {
             tokens: self.tokens,
             findings: self,
@@ -84,11 +85,6 @@ impl Walk<'_, '_> {
         }
     }
 
-    /// Adds a warning at a token.
-    fn add(&mut self, index: usize, warning: Warning) {
-        self.findings.add(index, warning);
-    }
-
     /// Reads a selector, and the dot before it.
     fn read(&mut self, selector: Selector) {
         if self.tokens.is(self.at, b".") {
@@ -99,13 +95,18 @@ impl Walk<'_, '_> {
             self.at = end;
         }
         if let Some(warning) = self.protocols.read(selector) {
-            self.add(place, warning);
+            self.findings.add(place, warning);
         }
         match selector {
             Selector::TransportSource | Selector::TransportDestination if !self.is_ported => {
-                self.add(place, warning::PORTS_OF_ANY);
+                let warning =
+                    "Linux reads the bytes of any protocol as ports; nftrun those of TCP and UDP";
+                self.findings.add(place, warning);
             }
-            Selector::CtState if self.is_early => self.add(place, warning::STATE_IN_EARLY_CHAIN),
+            Selector::CtState if self.is_early => self.findings.add(
+                place,
+                "here `ct` reads nothing in an early chain, on Linux `ct state` reads invalid or untracked",
+            ),
             _ => self.is_ported = self.is_ported || is_of_ports(selector),
         }
     }
@@ -113,7 +114,7 @@ impl Walk<'_, '_> {
     fn judge_map(&mut self, selector: Selector, map: &MapRef) -> Result<(), AllocError> {
         self.read(selector);
         if matches!(selector, Selector::CtStatus) {
-            self.add(self.at, warning::WHOLE_STATUS);
+            self.findings.add(self.at, WHOLE_STATUS);
         }
         let MapRef::Anonymous(pairs) = map else {
             return Ok(());
@@ -136,10 +137,12 @@ impl Walk<'_, '_> {
             Match::In(selectors, set) => self.judge_set(selectors, set, true)?,
             Match::NotIn(selectors, set) => self.judge_set(selectors, set, false)?,
             Match::Bits(BitField::State, BitTest::None, words) if words.len() > 1 => {
-                self.add(self.range.first, warning::STATE_NOT_SEVERAL);
+                let warning =
+                    "on Linux this always holds, since no state is all of these at once: write `!= { .. }`";
+                self.findings.add(self.range.first, warning);
             }
             Match::Bits(BitField::Status, BitTest::None | BitTest::Exactly, _) => {
-                self.add(self.range.first, warning::WHOLE_STATUS);
+                self.findings.add(self.range.first, WHOLE_STATUS);
             }
             Match::MaskedFlags(_) | Match::MaskedFlagsUnequal(_) => self.judge_mask(),
             _ => {}
@@ -158,7 +161,9 @@ impl Walk<'_, '_> {
         for selector in selectors_of(test) {
             self.read(*selector);
             if excludes && matches!(selector, Selector::OutputName | Selector::OutputIndex) {
-                self.add(self.at.saturating_sub(1), warning::NO_EXIT);
+                let warning =
+                    "on prerouting and input Linux reads an empty name, so this holds; here it doesn't";
+                self.findings.add(self.at.saturating_sub(1), warning);
                 excludes = false;
             }
         }
@@ -178,9 +183,11 @@ impl Walk<'_, '_> {
         match (selector, set) {
             (Selector::CtStatus | Selector::TcpFlags, SetRef::Anonymous(elements))
                 if elements.len() == 1 && !has_operator => {
-                self.add(self.range.first, warning::SINGLE_BIT);
+                let warning =
+                    "nft takes a set of one element for a test of its bit; here the whole value is compared";
+                self.findings.add(self.range.first, warning);
             }
-            (Selector::CtStatus, _) => self.add(self.range.first, warning::WHOLE_STATUS),
+            (Selector::CtStatus, _) => self.findings.add(self.range.first, WHOLE_STATUS),
             _ => {}
         }
         let SetRef::Anonymous(elements) = set else {
@@ -208,8 +215,14 @@ impl Walk<'_, '_> {
                 b"(" => is_open = true,
                 b")" => is_open = false,
                 b"==" | b"!=" => is_mask = false,
-                b"," if is_open || is_mask => return self.add(index, warning::COMMA_IN_MASK),
-                b"|" if is_mask && !is_open => return self.add(self.at, warning::OPEN_MASK),
+                b"," if is_open || is_mask => {
+                    let warning = "nft refuses a comma here: write `|`";
+                    return self.findings.add(index, warning);
+                }
+                b"|" if is_mask && !is_open => return self.findings.add(
+                    self.at,
+                    "nft takes the first flag alone for the mask: write parentheses round all of them",
+                ),
                 _ => {}
             }
         }
@@ -218,15 +231,17 @@ impl Walk<'_, '_> {
     /// Judges the mask behind a slash.
     fn judge_slash(&mut self, slash: usize) {
         let mask = self.tokens.bytes(slash.saturating_add(1));
-        match (mask, self.tokens.bytes(slash.saturating_add(2))) {
-            (_, b",") => {}
+        let warning = match (mask, self.tokens.bytes(slash.saturating_add(2))) {
+            (_, b",") => return,
             // The flags have 8 bits.
-            ([b'0'..=b'8'], next) if !matches!(next, b"|") => self.add(
-                slash,
-                warning::MASK_AS_PREFIX,
-            ),
-            _ => self.add(slash, warning::MASK_OF_ONE),
-        }
+            ([b'0'..=b'8'], next) if !matches!(next, b"|") => {
+                "nft takes the number behind `/` for the length of a prefix: write `tcp flags & MASK == FLAGS`"
+            }
+            _ => {
+                "nft wants two flags or more behind `/`, with commas: write `tcp flags & MASK == FLAGS`"
+            }
+        };
+        self.findings.add(slash, warning);
     }
 
     fn judge_nat(&mut self, nat: &Nat) -> Result<(), AllocError> {
@@ -235,7 +250,7 @@ impl Walk<'_, '_> {
         if matches!(nat, Nat::Source(_) | Nat::Destination(_))
             && let Some(warning) = self.protocols.judge_nat(named)
         {
-            self.add(place, warning);
+            self.findings.add(place, warning);
         }
         let has_ports = matches!(
             nat,
@@ -245,7 +260,9 @@ impl Walk<'_, '_> {
                 | Nat::Redirect(Some(_))
         );
         if has_ports && !self.protocols.has_transport() {
-            self.add(place, warning::PORTS_WITHOUT_PROTOCOL);
+            let warning =
+                "nft wants a match of the protocol before ports, as `meta l4proto { tcp, udp }`";
+            self.findings.add(place, warning);
         }
         match nat {
             Nat::Source(SourceTarget::MapLookup(lookup))

@@ -1,8 +1,7 @@
 //! What nft(8) refuses of sets and maps.
 use crate::findings::Findings;
 use crate::intervals::{Interval, cover, is_interval, wildcard_stem};
-use crate::names::is_reserved_interface;
-use crate::warning;
+use crate::names::{RESERVED_NAME, is_reserved_interface};
 use nft_tree::{
     ComparedType, Element, Key, MapDecl, Pair, SetDecl, SetFlag, Value, ValueRange, ValueType,
 };
@@ -57,7 +56,8 @@ impl Findings<'_> {
     /// Adds the warnings about a set.
     pub(crate) fn judge_set(&mut self, set: &SetDecl, range: TokenRange) -> Result<(), AllocError> {
         if set.auto_merge && !has_flag(&set.flags, SetFlag::Interval) {
-            self.add_at_word(range, b"auto-merge", warning::AUTO_MERGE_WITHOUT_INTERVAL);
+            let warning = "nft wants `flags interval` beside `auto-merge`";
+            self.add_at_word(range, b"auto-merge", warning);
         }
         let kind = set.key.kind(0).unwrap_or(ComparedType::Unnamed(0));
         let list = &set.elements;
@@ -67,7 +67,7 @@ impl Findings<'_> {
     /// Adds the warnings about a map.
     pub(crate) fn judge_map(&mut self, map: &MapDecl, range: TokenRange) -> Result<(), AllocError> {
         if map.auto_merge {
-            self.add_at_word(range, b"auto-merge", warning::AUTO_MERGE_OF_MAP);
+            self.add_at_word(range, b"auto-merge", "nft refuses `auto-merge` in a map");
         }
         let kind = map.types.key();
         self.judge_declared(&map.elements, kind, &map.flags, map.size, false, range)
@@ -89,7 +89,8 @@ impl Findings<'_> {
         let is_interval = has_flag(flags, SetFlag::Interval);
         for (element, place) in list.iter().zip(&places) {
             if element.is_interval() && !is_interval {
-                self.add(place.first, warning::NO_INTERVAL);
+                let warning = "nft wants `flags interval` for ranges, prefixes and names with `*`";
+                self.add(place.first, warning);
                 break;
             }
         }
@@ -101,7 +102,7 @@ impl Findings<'_> {
             && size < count as u64
             && !has_flag(flags, SetFlag::Constant)
         {
-            self.add_at_word(range, b"size", warning::TOO_MANY_ELEMENTS);
+            self.add_at_word(range, b"size", "nft refuses more elements than `size`");
         }
         Ok(())
     }
@@ -148,7 +149,10 @@ impl Findings<'_> {
         }
         let (count, overlapping) = cover(&mut intervals, is_merged);
         match overlapping {
-            Some(place) if is_apart => self.add(place, warning::OVERLAP),
+            Some(place) if is_apart => self.add(
+                place,
+                "nft refuses elements that overlap; in a set `auto-merge` joins them",
+            ),
             _ => {}
         }
         Ok(count)
@@ -167,11 +171,11 @@ impl Findings<'_> {
         };
         match value {
             Value::Word(word) if is_reserved_interface(word, in_list) => {
-                self.add(place, warning::RESERVED_NAME);
+                self.add(place, RESERVED_NAME);
             }
             Value::String(name)
                 if name.len() > MOST_OF_WILDCARD && wildcard_stem(value).is_some() => {
-                self.add(place, warning::LONG_WILDCARD);
+                self.add(place, "nft refuses more than 14 bytes before `*`");
             }
             _ => {}
         }
