@@ -2,6 +2,7 @@
 from __future__ import annotations
 
 import random
+import re
 import sys
 import unittest
 from dataclasses import replace
@@ -169,7 +170,7 @@ class OfAnswers(unittest.TestCase):
                 continue
             drawing = StageDrawing(random.Random(-seed), seed % 3 == 0)
             self.assertEqual(judging(pair, differences_in(told), drawing).judged(6).wrong, (), seed)
-            wrong = told.replace("rule 1 of", "rule 99 of").replace("by the policy of", "by rule 98 of")
+            wrong = re.sub("rule [0-9]+ of", "rule 99 of", told).replace("by the policy of", "by rule 98 of")
             found = judging(pair, differences_in(wrong), drawing).judged(30)
             self.assertTrue(found.wrong, seed)
             changed += 1

@@ -20,6 +20,9 @@ ADVICE = "crates/advice/src/unread.rt"
 SELECTORS = "crates/nft_tree/src/selector.rt"
 EXAMPLES = "crates/definition_examples/src/semantics.rt"
 OF_EXAMPLES = "crates/definition_examples/specs/SemanticsExamples.antt"
+COMPARED, OF_ORDERS = "crates/rule_types/src/compared_types.rt", "crates/rules_advice/src/type_advice.rt"
+NAMED_TYPES = "crates/rules_advice/src/types.rt"
+KEYWORDS_OF, PROTOCOLS = "crates/nft_expressions/src/selector_words.rt", "crates/nft_differences/src/protocols.rt"
 FACTS, FACT_WORDS = "crates/fact_sets/src/fact_field.rt", "crates/set_texts/src/words.rt"
 NUMBERS, FIT = "tools/fit/numbers.py", "docs/FIT.md"
 
@@ -79,6 +82,14 @@ class OfTypes(PlacesCase):
         self.want(f"{CODES}, N08, types with ranges alone", [it for it in RANGED if it not in ORDERED],
                   listed(behind.partition("ranges also of ")[2].partition(")")[0]))
 
+    def test_what_is_advised_of_orders(self) -> None:
+        named = dict(re.findall(r"^pub const (\w+): ComparedType = ComparedType::Named\(ValueType::(\w+)\);$",
+                                text_of(NAMED_TYPES), re.M))
+        advised = re.findall(r"\b[A-Z]{2,}\b", found("has_order = matches!(.*?);$", OF_ORDERS))
+        self.want(f"{OF_ORDERS}, has_order",
+                  re.findall(r"ValueType::(\w+)", found(r"^fn is_ordered\((.*?)^\}", COMPARED)),
+                  [named[it] for it in advised])
+
     def test_what_fit_compares(self) -> None:
         self.want(f"{NUMBERS}, ORDERED", [it for it in ORDERED if it in NFT.types], numbers.ORDERED)
         self.want(f"{NUMBERS}, RANGED", [it for it in RANGED if it in NFT.types], numbers.RANGED)
@@ -119,6 +130,16 @@ class OfAdvice(PlacesCase):
         pairs = [f"{before} {word}" for before, word in re.findall(r'\("([\w-]+)", "([\w-]+)"\)', text_of(ADVICE))]
         self.assertLess(5, len(pairs))
         self.want(f"{ADVICE}, what isn't read behind a header", set(pairs).difference(NFT.selectors), pairs)
+
+
+class OfHeaders(PlacesCase):
+    def test_of_which_header_selectors_are(self) -> None:
+        """Arms for all others take those that aren't named."""
+        for header, arm in (("IP", "match self.network"), ("TCP", r"Some\(TCP\)"), ("UDP", r"Some\(UDP\)"),
+                            ("ICMP", r"Some\(ICMP\)")):
+            self.want(f"{PROTOCOLS}, selectors of {header}",
+                      re.findall(r"Selector::(\w+)", found(rf"^pub\(crate\) static IN_{header}: (.*?);$", KEYWORDS_OF)),
+                      re.findall(r"Selector::(\w+)", found(rf"((?:Selector::\w+[\s|]*)+)=> {arm}", PROTOCOLS)))
 
 
 class OfExamples(PlacesCase):
@@ -181,6 +202,7 @@ class OfFit(PlacesCase):
         """A cell that lists selectors, and says no more of them than that there are other such."""
         lists = [it for it in self.cells if re.fullmatch("`[^`]+`(, (`[^`]+`|[a-z ]+))*", it)]
         guessed = [it for cell in lists for it in selectors_in(cell)]
+        guessed += re.findall(r"^rules\.nft:\d+: (\S+ \S+).*?: \w+=\w+ or ", text_of(FIT), re.M)
         self.assertLess(20, len(guessed))
         self.want(f"{FIT}, guesses", set(guessed).difference(NFT.selectors), guessed)
 
