@@ -118,7 +118,7 @@ fn fill<R: Abort>(rt: &R, tracker: &mut AgedTracker, ports: u16)
     for port in 0..ports {
         let visits = begin(tracker, port);
         assert!(rt;
-            visits == Some(if port == 0 { 5 } else { 6 }),
+            visits == Some(if port == 0 { 4 } else { 5 }),
             "port {port}"
         );
     }
