@@ -1,4 +1,5 @@
 pub mod PairLaws
 pub mod PieceLaws
+mod ShortLaws
 pub mod RunLaws
 pub mod LayerLaws

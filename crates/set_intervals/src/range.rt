@@ -23,6 +23,7 @@ impl Range {
     }
 
     /// The lowest number.
+    #[inline(always)]
     pub fn low(self) -> u128
         ensures { result ≡ self.low }
     {
@@ -30,6 +31,7 @@ impl Range {
     }
 
     /// The highest number.
+    #[inline(always)]
     pub fn high(self) -> u128
         ensures { result ≡ self.high }
     {

@@ -1,10 +1,10 @@
 //! The lookup table: values by number, kept as sorted intervals.
-ghost use Rattle.std.specs.Prelude.{◌≡◌, ◌≤◌, ◌<◌, ℕ, Contains, List, Some, IfOk, OnOk, IfErr, MatchOption};
+ghost use Rattle.std.specs.Prelude.{◌≡◌, ◌≤◌, ◌<◌, ℕ, Contains, List, Some, IfOk, OnOk, IfErr, MatchOption, IsTrue};
 ghost use Rattle.std.specs.Option.{option_copied};
 ghost use Rattle.set_intervals.specs.declared.range.Range.{Range};
-ghost use Rattle.search_levels.specs.Levels.{IsLevel, Parts};
+ghost use Rattle.search_levels.specs.Levels.{IsLevel, IsShort, Parts};
 ghost use Rattle.set_intervals.specs.Pairs.{Covers, HasClash, HasRuns, HasValue, IsExact, SameValues, first_value};
-ghost use Rattle.set_intervals.specs.steps.Pieces.{Adds, ClashesWith, IsLowerBound, IsTable, ClassifiesOverlap, StartsBefore, highs};
+ghost use Rattle.set_intervals.specs.steps.Pieces.{Adds, AreShort, ClashesWith, IsLowerBound, IsTable, ClassifiesOverlap, StartsBefore, highs, low_half};
 
 use crate::fault::SetError;
 use crate::overlay::first_wins;
@@ -20,6 +20,8 @@ pub struct Intervals<V> {
     pieces: Vec<(Range, V)>,
     /// Over the highest numbers of the pieces.
     level: Level,
+    /// All numbers have at most 64 bits, and the level is short: few sets have wider ones.
+    is_short: bool,
 }
 
 impl<V> Model for Intervals<V> {
@@ -27,7 +29,8 @@ impl<V> Model for Intervals<V> {
 
     ghost view = { λ t. t.pieces.items };
 
-    ghost invariant = { λ t. IsTable t.pieces.items × IsLevel t.level (highs t.pieces.items) };
+    ghost invariant = { λ t. IsTable t.pieces.items × IsLevel t.level (highs t.pieces.items)
+        × (IsTrue t.is_short → AreShort t.pieces.items × IsShort t.level) };
 }
 
 impl<V: Copy + Eq> Intervals<V> {
@@ -75,16 +78,27 @@ impl<V: Copy + Eq> Intervals<V> {
         ensures { IfOk result (λ table. table ≡ pieces.items) }
     {
         let level = level_of(alloc, &pieces)?;
-        Ok(Intervals { pieces, level })
+        let is_short = level.is_short() && are_short(&pieces);
+        Ok(Intervals {
+            pieces,
+            level,
+            is_short,
+        })
     }
 
     /// The value at a number; `None` if no interval contains it.
+    #[inline(always)]
     pub fn find(&self, key: u128) -> Option<&V>
         ensures held { MatchOption (option_copied result)
             ((v : V) → HasValue self.now key v → ⊥)
             (λ v. HasValue self.now key v) }
         ensures first_values { option_copied result ≡ first_value self.now key }
     {
+        if self.is_short && key < SHORT {
+            let key = (key % SHORT) as u64;
+            let (from, to) = self.level.part_short(key);
+            return find_short(&self.pieces, from, to, key);
+        }
         let (from, to) = self.level.part(key);
         find_in(&self.pieces, from, to, key)
     }
@@ -104,6 +118,28 @@ impl<V: Copy + Eq> Intervals<V> {
         ensures { HasRuns self.now result }
     {
         self.pieces.len()
+    }
+}
+
+/// The least number of more than 64 bits.
+const SHORT: u128 = 0x1_0000_0000_0000_0000;
+
+/// The low 64 bits of a number.
+#[inline(always)]
+fn low_half(number: u128) -> u64
+    ensures { result ≡ low_half number }
+{
+    (number % SHORT) as u64
+}
+
+/// Whether the numbers of all pieces have at most 64 bits: the highest is the last one's.
+fn are_short<V>(pieces: &[(Range, V)]) -> bool
+    requires { IsTable pieces.now }
+    ensures { IsTrue result → AreShort pieces.now }
+{
+    match pieces.last() {
+        Some((range, _)) => range.high() < SHORT,
+        None => true,
     }
 }
 
@@ -195,4 +231,32 @@ fn lower_bound<V>(pieces: &[(Range, V)], from: usize, to: usize, key: u128) -> u
     ensures { IsLowerBound pieces.now key result }
 {
     from + pieces[from..to].partition_point(|pair| pair.0.high() < key)
+}
+
+/// As `find_in`, where all numbers have at most 64 bits.
+#[inline(always)]
+fn find_short<V>(pieces: &[(Range, V)], from: usize, to: usize, key: u64) -> Option<&V>
+    requires table { IsTable pieces.now }
+    requires short { AreShort pieces.now }
+    requires parts { Parts (highs pieces.now) key from to }
+    ensures { MatchOption (option_copied result)
+        ((v : V) → HasValue pieces.now key v → ⊥)
+        (λ v. HasValue pieces.now key v) }
+{
+    let at = short_lower_bound(pieces, from, to, key);
+    match pieces.get(at) {
+        Some((range, value)) if low_half(range.low()) <= key => Some(value),
+        _ => None,
+    }
+}
+
+/// As `lower_bound`, where all numbers have at most 64 bits.
+#[inline(always)]
+fn short_lower_bound<V>(pieces: &[(Range, V)], from: usize, to: usize, key: u64) -> usize
+    requires table { IsTable pieces.now }
+    requires short { AreShort pieces.now }
+    requires parts { Parts (highs pieces.now) key from to }
+    ensures { IsLowerBound pieces.now key result }
+{
+    from + pieces[from..to].partition_point(|pair| low_half(pair.0.high()) < key)
 }

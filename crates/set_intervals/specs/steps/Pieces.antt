@@ -1,5 +1,5 @@
 -- The intervals of a table as the code keeps them.
-use Rattle.std.specs.Prelude.{◌≡◌, ◌≢◌, ℕ, ◌+◌, ◌<◌, ◌≤◌, ◌↔◌, List, length, map, ◌⊎◌, slice_index_or}
+use Rattle.std.specs.Prelude.{◌≡◌, ◌≢◌, ◌%◌, ◌^◌, ℕ, ◌+◌, ◌<◌, ◌≤◌, ◌↔◌, List, length, map, ◌⊎◌, slice_index_or}
 use Rattle.set_intervals.specs.declared.range.Range.{Range}
 use Rattle.set_intervals.specs.declared.table.Overlap.{Overlap}
 use Rattle.set_intervals.specs.declared.table.Overlap.TheVariants.{Disjoint, Mergeable, Clashes}
@@ -56,3 +56,11 @@ IsLowerBound {V} xs key at =
 -- the highest numbers of the ranges
 abbrev pub highs : {V : Type 0} → List (Range × V) → List ℕ
 highs {V} xs = map (λ (p : Range × V). p.0.high) xs
+
+-- the numbers of all ranges have at most 64 bits
+abbrev pub AreShort : {V : Type 0} → List (Range × V) → Type 0
+AreShort {V} xs = (i : ℕ) (d : Range × V) → i < length xs → (slice_index_or xs i d).0.high < 2 ^ 64
+
+-- the low 64 bits of a number
+abbrev pub low_half : ℕ → ℕ
+low_half number = number % 2 ^ 64
