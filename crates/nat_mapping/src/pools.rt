@@ -165,9 +165,7 @@ fn give_port(pools: &mut HashMap<PoolKey, Pool, WordState>, key: PoolKey, port: 
     ensures spare { spare pools.old ≤ spare pools.new }
     ensures unique { IsUnique same_pool pools.new }
 {
-    let Some(pool) = pools.get_mut(&key) else {
-        unreachable!()
-    };
+    let pool = pools.get_mut(&key)?;
     pool.give(port);
     if !pool.is_unused() {
         return None;
@@ -189,10 +187,9 @@ fn start_pool(pools: &mut HashMap<PoolKey, Pool, WordState>, key: PoolKey, pool:
 {
     let mut pool = pool.with_order(order(key.kind));
     pool.take(port);
-    match pools.insert(key, pool) {
-        Ok(_) => (),
-        Err(_) => unreachable!(),
-    }
+    // There is room for it.
+    let inserted: Result<_, _> = pools.insert(key, pool);
+    inserted.unwrap();
 }
 
 /// Makes at least so many spare pools.

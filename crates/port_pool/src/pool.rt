@@ -142,14 +142,17 @@ impl Pool {
         ensures taken { (p : ℕ) → is_taken result p ≡ is_taken self p }
     {
         let Pool { numbers } = self;
-        let bitmap = match numbers {
-            TakenNumbers::Ports(bitmap) | TakenNumbers::Identifiers(bitmap) => bitmap,
-            TakenNumbers::Zero(_) => unreachable!(),
-        };
-        let numbers = match order {
-            Order::Ports => TakenNumbers::Ports(bitmap),
-            Order::Identifiers => TakenNumbers::Identifiers(bitmap),
-            Order::Zero => unreachable!(),
+        let numbers = match (numbers, order) {
+            (
+                TakenNumbers::Ports(bitmap) | TakenNumbers::Identifiers(bitmap),
+                Order::Ports,
+            ) => TakenNumbers::Ports(bitmap),
+            (
+                TakenNumbers::Ports(bitmap) | TakenNumbers::Identifiers(bitmap),
+                Order::Identifiers,
+            ) => TakenNumbers::Identifiers(bitmap),
+            // The number 0 alone has no bitmap.
+            (numbers, _) => numbers,
         };
         Pool { numbers }
     }

@@ -22,6 +22,16 @@ impl Range {
         }
     }
 
+    /// The range of one number.
+    pub fn of_number(number: u128) -> Range
+        ensures { (result.low ≡ number) × (result.high ≡ number) }
+    {
+        Range {
+            low: number,
+            high: number,
+        }
+    }
+
     /// The lowest number.
     #[inline(always)]
     pub fn low(self) -> u128
