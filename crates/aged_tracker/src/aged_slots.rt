@@ -51,9 +51,9 @@ fn oldest_of(slots: &Slots, queues: &[Link; LISTS], queue: usize, steps: &mut St
 {
     match front(queues, queue) {
         None => 0,
-        Some(key) => match slots.get(key, steps) {
+        Some(key) => match slots.last(key, steps) {
             None => 0,
-            Some(slot) => slot.last,
+            Some(last) => last,
         },
     }
 }
@@ -161,9 +161,7 @@ impl AgedSlots {
             ≡ belonging_at limits.now now tuple flags (slots_of self.now key) }
         ensures steps { IsWithin (Some 1) steps.old steps.new }
     {
-        let slot = self.slots.get(key, steps)?;
-        let direction = slot.direction_of(tuple)?;
-        Some(slot.belonging(key, limits, direction, flags, now))
+        self.slots.belonging(key, limits, tuple, flags, now, steps)
     }
 
     /// Updates an entry for one more packet and moves it to the end of its queue. Returns the slot

@@ -2,6 +2,8 @@
 ghost use Rattle.std.specs.Prelude.{◌≡◌, ◌+◌, ◌<◌, ℕ, None, IfSome, IfNone};
 ghost use Rattle.conntrack.specs.Phases.{is_closing, phase_by};
 ghost use Rattle.conntrack.specs.ConntrackEntry.{connection_ref, is_live};
+ghost use Rattle.aged_tracker.specs.declared.slot.Link.{Link as Linked};
+ghost use Rattle.aged_tracker.specs.steps.SlotLists.{unlinked, whole_slot};
 ghost use Rattle.aged_tracker.specs.steps.Table.{MAX_KEYS, belonging_in, direction_in, held_of, idle_at, number, queue_by, queue_in, touched_slot, with_neighbour};
 
 use crate::packed::PackedTuple;
@@ -106,6 +108,7 @@ impl Link {
         requires { list < 5 }
         ensures prev { number result.prev ≡ list }
         ensures next { number result.next ≡ list }
+        ensures first { list ≡ 0 → result ≡ unlinked }
     {
         let head = NodeIndex::head(list);
         Link {
@@ -135,16 +138,14 @@ pub struct ListLinks {
     pub link: Link,
 }
 
-/// An entry with its links in its queue. The fields are in memory in this order: first those that a
-/// packet of the connection reads and writes, so that they share cache lines. Only before `serial`
-/// are there two bytes of padding. The entry's id isn't stored: it is the slot's key.
+/// An entry with its links in its queue. The entry's id isn't stored: it is the slot's key.
 #[derive(Clone, Copy)]
 pub struct Slot {
     /// The moment of the entry's last packet.
-    pub last: Moment,
+    last: Moment,
     mark: u32,
     /// Its links in its queue.
-    pub links: ListLinks,
+    links: ListLinks,
     from_original: Flags,
     from_reply: Flags,
     replied: bool,
@@ -153,10 +154,33 @@ pub struct Slot {
     source: Option<PackedTuple>,
     dest: Option<PackedTuple>,
     /// How many entries the table had created before.
+    serial: u64,
+}
+
+/// What is stored of a slot beside its links. The fields are in memory in this order: first those
+/// that a packet of the connection reads and writes, so that they share cache lines. Only before
+/// `serial` is there padding.
+#[derive(Clone, Copy)]
+pub struct HotSlot {
+    /// The moment of the entry's last packet.
+    pub last: Moment,
+    mark: u32,
+    from_original: Flags,
+    from_reply: Flags,
+    replied: bool,
+    /// The list that the slot is in, if it is in one.
+    pub list: Option<u8>,
+    original: PackedTuple,
+    reply: PackedTuple,
+    source: Option<PackedTuple>,
+    dest: Option<PackedTuple>,
+    /// How many entries the table had created before.
     pub serial: u64,
 }
 
-const _: () = prove!(size_of::<Slot>() == 104);
+const _: () = prove!(size_of::<HotSlot>() == 96);
+
+const _: () = prove!(size_of::<Link>() == 8);
 
 impl Slot {
     /// A slot with an entry, in no list.
@@ -184,6 +208,48 @@ impl Slot {
         }
     }
 
+    /// A slot put together.
+    pub fn whole(link: Link, hot: &HotSlot) -> Self
+        ensures { result ≡ whole_slot link hot.now }
+    {
+        Slot {
+            last: hot.last,
+            mark: hot.mark,
+            links: ListLinks {
+                list: hot.list,
+                link,
+            },
+            from_original: hot.from_original,
+            from_reply: hot.from_reply,
+            replied: hot.replied,
+            original: hot.original,
+            reply: hot.reply,
+            source: hot.source,
+            dest: hot.dest,
+            serial: hot.serial,
+        }
+    }
+
+    /// Its links, and what is stored beside them.
+    pub fn parts(&self) -> (Link, HotSlot)
+        ensures { whole_slot result.0 result.1 ≡ self.now }
+    {
+        let hot = HotSlot {
+            last: self.last,
+            mark: self.mark,
+            from_original: self.from_original,
+            from_reply: self.from_reply,
+            replied: self.replied,
+            list: self.links.list,
+            original: self.original,
+            reply: self.reply,
+            source: self.source,
+            dest: self.dest,
+            serial: self.serial,
+        };
+        (self.links.link, hot)
+    }
+
     /// The entry in the slot of this key.
     pub fn held(&self, key: usize) -> ConntrackEntry
         ensures { result ≡ held_of key self.now }
@@ -201,10 +267,12 @@ impl Slot {
             dest: PackedTuple::mapping(self.dest),
         }
     }
+}
 
+impl HotSlot {
     /// Its queue.
     pub fn queue(&self) -> usize
-        ensures queue { result ≡ queue_in self.now }
+        ensures queue { (link : Linked) → result ≡ queue_in (whole_slot link self.now) }
         ensures range { result < 5 }
     {
         queue_by(self.original.kind(), self.phase())
@@ -219,21 +287,22 @@ impl Slot {
 
     /// Whether the entry is live at a moment.
     fn is_live(&self, limits: &Limits, now: Moment) -> bool
-        ensures { result ≡ is_live limits.now now (held_of 0 self.now) }
+        ensures { result ≡ is_live limits.now now (held_of 0 (whole_slot unlinked self.now)) }
     {
         now.saturating_sub(self.last) < limit_by(*limits, self.original.kind(), self.phase())
     }
 
     /// Whether its connection is closing.
     fn is_closing(&self) -> bool
-        ensures { result ≡ is_closing (held_of 0 self.now) }
+        ensures { result ≡ is_closing (held_of 0 (whole_slot unlinked self.now)) }
     {
         self.phase() == Phase::Closing
     }
 
     /// The reference of a packet with this direction to the entry in the slot of this key.
     fn connection_ref(&self, key: usize, direction: Direction) -> ConnectionRef
-        ensures { result ≡ connection_ref (held_of key self.now) direction }
+        ensures { result
+            ≡ connection_ref (held_of key (whole_slot unlinked self.now)) direction }
     {
         ConnectionRef {
             id: ConnId(key),
@@ -248,7 +317,7 @@ impl Slot {
     /// The direction of a packet with this tuple, if that is an incoming tuple of the entry.
     #[inline(always)]
     pub fn direction_of(&self, tuple: Tuple) -> Option<Direction>
-        ensures { result ≡ direction_in tuple (held_of 0 self.now) }
+        ensures { (link : Linked) → result ≡ direction_in tuple (held_of 0 (whole_slot link self.now)) }
     {
         if self.original.is(tuple) {
             Some(Direction::Original)
@@ -269,8 +338,8 @@ impl Slot {
         flags: Flags,
         now: Moment,
     ) -> Belonging
-        ensures { result
-            ≡ belonging_in limits.now now flags (held_of key self.now) direction }
+        ensures { (link : Linked) → result
+            ≡ belonging_in limits.now now flags (held_of key (whole_slot link self.now)) direction }
     {
         if !self.is_live(limits, now) {
             return Belonging::NotFound;
@@ -285,7 +354,8 @@ impl Slot {
 
     /// Updates the entry for one more packet, which sets this mark.
     pub fn touch(&mut self, direction: Direction, flags: Flags, mark: u32, now: Moment)
-        ensures { self.new ≡ touched_slot direction flags mark now self.old }
+        ensures { (link : Linked) → whole_slot link self.new
+            ≡ touched_slot direction flags mark now (whole_slot link self.old) }
     {
         match direction {
             Direction::Original => self.from_original = self.from_original.and(flags),

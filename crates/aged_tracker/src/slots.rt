@@ -1,22 +1,26 @@
 //! The slots of a table. Nothing else reaches a slot, and each call that reads or writes one counts
 //! it in `steps`.
-ghost use Rattle.std.specs.Prelude.{◌≡◌, ◌+◌, ◌<◌, [], List, IsTrue, IfSome, IfOk, OnOk, IsOk, Some, None, map, option_copied, nat_lt};
+ghost use Rattle.std.specs.Prelude.{◌≡◌, ◌+◌, ◌<◌, [], List, IsTrue, IfSome, IfOk, OnOk, IsOk, Some, None, length, map, nat_lt, option_map, slice_index_or, ℕ, ◌≤◌};
 ghost use Rattle.slab.specs.Slab.{entries, get, slab_len, ContainsKey, Updates};
 ghost use Rattle.conntrack.specs.StepCounts.{Counts};
 ghost use Rattle.conntrack.specs.TableEntries.{touched};
-ghost use Rattle.aged_tracker.specs.steps.Table.{Placed, SameSize, held_of, link_at, numbered_entry, owner_of, queue_of, updated, with_link, with_neighbour};
+ghost use Rattle.aged_tracker.specs.steps.Table.{Placed, SameSize, belonging_at, held_at, held_of, link_at, numbered_entry, owner_of, queue_of, updated, with_link, with_neighbour};
 ghost use Rattle.aged_tracker.specs.declared.slot.Link.{Link as Linked};
 
-use crate::slot::{Link, ListLinks, Neighbour, NodeIndex, Slot};
-use conntrack::{Connection, Direction, Flags, Memory, Moment, Steps};
+use crate::slot::{HotSlot, Link, ListLinks, Neighbour, NodeIndex, Slot};
+use box_file::Limits;
+use conntrack::{Belonging, Connection, Direction, Flags, Memory, Moment, Steps};
+use ip_headers::Tuple;
 use slab::Slab;
 use std::alloc::Global;
 use std::marker::Model;
 
-/// The slots by their keys.
+/// The slots by their keys. Links are apart from what else a slot has: of a neighbour in a queue a
+/// packet needs nothing else.
 #[derive(Drop)]
 pub struct Slots {
-    slab: Slab<Slot>,
+    slab: Slab<HotSlot>,
+    links: Vec<Link>,
 }
 
 impl Model for Slots {
@@ -25,7 +29,32 @@ impl Model for Slots {
 
     ghost Value = { Slabs Slotted };
 
-    ghost view = { λ s. s.slab };
+    ghost use Rattle.aged_tracker.specs.steps.SlotLists.{IsStored, whole};
+
+    ghost view = { λ s. whole s.slab s.links.items };
+
+    ghost invariant = { λ s. IsStored s.slab s.links.items };
+}
+
+/// Lengthens a list by fillers until it has a place for a key.
+///
+/// # Errors
+///
+/// `Memory` where memory ran out.
+fn make_place<T: Copy>(list: &mut Vec<T>, key: usize, filler: T) -> Result<(), Memory>
+    ensures items { (other : ℕ) → slice_index_or list.new.items other filler
+        ≡ slice_index_or list.old.items other filler }
+    ensures length { length list.old.items ≤ length list.new.items }
+    ensures place { OnOk result (key < length list.new.items) }
+    ensures spared { key < length list.old.items → (list.new ≡ list.old) × IsOk result }
+{
+    if key < list.len() {
+        return Ok(());
+    }
+    let Some(needed) = key.checked_add(1) else {
+        return Err(Memory);
+    };
+    list.resize(needed, filler)
 }
 
 impl Slots {
@@ -37,6 +66,7 @@ impl Slots {
     {
         Slots {
             slab: Slab::new(alloc),
+            links: Vec::new(alloc),
         }
     }
 
@@ -58,16 +88,42 @@ impl Slots {
         ensures spared { IsTrue (nat_lt (slab_len self.old) self.old.capacity)
             → (self.new ≡ self.old) × IsOk result }
     {
+        let key = self.slab.vacant_key();
+        make_place(&mut self.links, key, Link::alone(0))?;
         self.slab.reserve(1)
     }
 
-    /// Reads one.
-    pub fn get(&self, key: usize, steps: &mut Steps) -> Option<&Slot>
-        ensures slot { option_copied result ≡ get self.now key }
+    /// The moment of the last packet of one.
+    pub fn last(&self, key: usize, steps: &mut Steps) -> Option<Moment>
+        ensures last { result ≡ option_map (λ s. s.last) (get self.now key) }
         ensures steps { Counts 1 steps.old steps.new }
     {
         steps.tick();
-        self.slab.get(key)
+        match self.slab.get(key) {
+            Some(slot) => Some(slot.last),
+            None => None,
+        }
+    }
+
+    /// The lookup result of a packet, if one has an entry with its tuple as an incoming one.
+    #[inline(always)]
+    pub fn belonging(
+        &self,
+        key: usize,
+        limits: &Limits,
+        tuple: Tuple,
+        flags: Flags,
+        now: Moment,
+        steps: &mut Steps,
+    ) -> Option<Belonging>
+        ensures belonging { result
+            ≡ belonging_at limits.now now tuple flags (held_at self.now key) }
+        ensures steps { Counts 1 steps.old steps.new }
+    {
+        steps.tick();
+        let slot = self.slab.get(key)?;
+        let direction = slot.direction_of(tuple)?;
+        Some(slot.belonging(key, limits, direction, flags, now))
     }
 
     /// The numbers of all, and their entries as they are listed.
@@ -86,7 +142,10 @@ impl Slots {
         steps.add(self.slab.len());
         self.slab
             .iter()
-            .map(|entry| (entry.1.serial, entry.1.held(entry.0).connection()))
+            .map(|entry| {
+                let slot = Slot::whole(Link::alone(0), entry.1);
+                (entry.1.serial, slot.held(entry.0).connection())
+            })
             .collect(alloc)
     }
 
@@ -100,7 +159,10 @@ impl Slots {
         ensures steps { Counts 1 steps.old steps.new }
     {
         steps.tick();
-        self.slab.insert_reserved(slot)
+        let (link, hot) = slot.parts();
+        let key = self.slab.insert_reserved(hot);
+        self.links[key] = link;
+        key
     }
 
     /// Empties one.
@@ -113,7 +175,8 @@ impl Slots {
         ensures steps { Counts 1 steps.old steps.new }
     {
         steps.tick();
-        self.slab.remove(key)
+        let hot = self.slab.remove(key);
+        Slot::whole(self.links[key], &hot)
     }
 
     /// Updates the entry of one for one more packet, and returns its queue then, and the node that
@@ -141,7 +204,7 @@ impl Slots {
         steps.tick();
         let slot = &mut self.slab[key];
         slot.touch(direction, flags, mark, now);
-        (slot.queue(), slot.links.link.next)
+        (slot.queue(), self.links[key].next)
     }
 
     /// Takes the links of one: it is in no list then.
@@ -156,9 +219,12 @@ impl Slots {
     {
         steps.tick();
         let slot = &mut self.slab[key];
-        let links = slot.links;
-        slot.links.list = None;
-        links
+        let list = slot.list;
+        slot.list = None;
+        ListLinks {
+            list,
+            link: self.links[key],
+        }
     }
 
     /// Sets the links of one.
@@ -169,7 +235,8 @@ impl Slots {
         ensures steps { Counts 1 steps.old steps.new }
     {
         steps.tick();
-        self.slab[key].links = links;
+        self.slab[key].list = links.list;
+        self.links[key] = links.link;
     }
 
     /// Sets a neighbour of one.
@@ -188,6 +255,6 @@ impl Slots {
         ensures steps { Counts 1 steps.old steps.new }
     {
         steps.tick();
-        self.slab[key].links.link.set(neighbour, to);
+        self.links[key].set(neighbour, to);
     }
 }
