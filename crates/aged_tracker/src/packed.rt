@@ -1,6 +1,7 @@
 //! Tuples and mappings packed to 14 bytes (no padding).
-ghost use Rattle.std.specs.Prelude.{◌≡◌, option_map};
+ghost use Rattle.std.specs.Prelude.{◌≡◌, ◌↔◌, IsTrue, option_map};
 ghost use Rattle.ip_headers.specs.Same.{same_endpoint, same_tuple};
+ghost use Rattle.aged_tracker.specs.steps.SlotLists.{inverse_packed};
 ghost use Rattle.aged_tracker.specs.steps.Table.{endpoint_of, mapping_of, tuple_of};
 
 use ip_headers::{Endpoint, Kind, Mapping, Tuple};
@@ -45,6 +46,13 @@ impl PackedEndpoint {
         }
     }
 
+    /// Whether it is the same as another.
+    fn equals(self, other: Self) -> bool
+        ensures { IsTrue result ↔ (self ≡ other) }
+    {
+        self.low == other.low && self.high == other.high && self.port == other.port
+    }
+
     #[inline(always)]
     fn is(self, endpoint: Endpoint) -> bool
         ensures { result ≡ same_endpoint (endpoint_of self) endpoint }
@@ -64,6 +72,27 @@ impl PackedTuple {
             first: PackedEndpoint::of(tuple.source),
             second: PackedEndpoint::of(tuple.destination),
         }
+    }
+
+    /// The packed tuple of packets in the other direction.
+    #[inline(always)]
+    pub fn inverse(self) -> Self
+        ensures { result ≡ inverse_packed self }
+    {
+        PackedTuple {
+            kind: self.kind.inverse(),
+            first: self.second,
+            second: self.first,
+        }
+    }
+
+    /// Whether it is the same as another.
+    pub fn equals(self, other: Self) -> bool
+        ensures { IsTrue result ↔ (self ≡ other) }
+    {
+        self.kind == other.kind
+            && self.first.equals(other.first)
+            && self.second.equals(other.second)
     }
 
     /// The kind of a tuple.

@@ -2,8 +2,9 @@
 ghost use Rattle.std.specs.Prelude.{◌≡◌, ◌+◌, ◌<◌, ℕ, None, IfSome, IfNone};
 ghost use Rattle.conntrack.specs.Phases.{is_closing, phase_by};
 ghost use Rattle.conntrack.specs.ConntrackEntry.{connection_ref, is_live};
+ghost use Rattle.aged_tracker.specs.declared.slot.ColdSlot.{ColdSlot as Cold};
 ghost use Rattle.aged_tracker.specs.declared.slot.Link.{Link as Linked};
-ghost use Rattle.aged_tracker.specs.steps.SlotLists.{unlinked, whole_slot};
+ghost use Rattle.aged_tracker.specs.steps.SlotLists.{reply_of, unlinked, unused, whole_slot};
 ghost use Rattle.aged_tracker.specs.steps.Table.{MAX_KEYS, belonging_in, direction_in, held_of, idle_at, number, queue_by, queue_in, touched_slot, with_neighbour};
 
 use crate::packed::PackedTuple;
@@ -154,12 +155,11 @@ pub struct Slot {
     source: Option<PackedTuple>,
     dest: Option<PackedTuple>,
     /// How many entries the table had created before.
-    serial: u64,
+    pub serial: u64,
 }
 
-/// What is stored of a slot beside its links. The fields are in memory in this order: first those
-/// that a packet of the connection reads and writes, so that they share cache lines. Only before
-/// `serial` is there padding.
+/// What packets use of a slot, beside links. The fields are in memory in this order. In a slab, which
+/// puts 8 bytes before each, a packet of an untranslated connection uses the first 46 of 64 bytes.
 #[derive(Clone, Copy)]
 pub struct HotSlot {
     /// The moment of the entry's last packet.
@@ -170,15 +170,24 @@ pub struct HotSlot {
     replied: bool,
     /// The list that the slot is in, if it is in one.
     pub list: Option<u8>,
+    /// Whether incoming tuples aren't each other's inverse.
+    is_translated: bool,
     original: PackedTuple,
+    /// Read only if `is_translated`: else it is the inverse of `original`.
     reply: PackedTuple,
-    source: Option<PackedTuple>,
-    dest: Option<PackedTuple>,
-    /// How many entries the table had created before.
-    pub serial: u64,
 }
 
-const _: () = prove!(size_of::<HotSlot>() == 96);
+/// What only the beginning and the end of a connection, and lists of all, use of a slot.
+#[derive(Clone, Copy)]
+pub struct ColdSlot {
+    source: Option<PackedTuple>,
+    dest: Option<PackedTuple>,
+    serial: u64,
+}
+
+const _: () = prove!(size_of::<HotSlot>() == 56);
+
+const _: () = prove!(size_of::<ColdSlot>() == 40);
 
 const _: () = prove!(size_of::<Link>() == 8);
 
@@ -209,8 +218,8 @@ impl Slot {
     }
 
     /// A slot put together.
-    pub fn whole(link: Link, hot: &HotSlot) -> Self
-        ensures { result ≡ whole_slot link hot.now }
+    pub fn whole(link: Link, cold: &ColdSlot, hot: &HotSlot) -> Self
+        ensures { result ≡ whole_slot link cold.now hot.now }
     {
         Slot {
             last: hot.last,
@@ -223,16 +232,16 @@ impl Slot {
             from_reply: hot.from_reply,
             replied: hot.replied,
             original: hot.original,
-            reply: hot.reply,
-            source: hot.source,
-            dest: hot.dest,
-            serial: hot.serial,
+            reply: hot.reply(),
+            source: cold.source,
+            dest: cold.dest,
+            serial: cold.serial,
         }
     }
 
-    /// Its links, and what is stored beside them.
-    pub fn parts(&self) -> (Link, HotSlot)
-        ensures { whole_slot result.0 result.1 ≡ self.now }
+    /// The parts that are stored apart: its links are the third.
+    pub fn parts(&self) -> (HotSlot, ColdSlot, Link)
+        ensures { whole_slot result.2 result.1 result.0 ≡ self.now }
     {
         let hot = HotSlot {
             last: self.last,
@@ -241,13 +250,16 @@ impl Slot {
             from_reply: self.from_reply,
             replied: self.replied,
             list: self.links.list,
+            is_translated: !self.original.inverse().equals(self.reply),
             original: self.original,
             reply: self.reply,
+        };
+        let cold = ColdSlot {
             source: self.source,
             dest: self.dest,
             serial: self.serial,
         };
-        (self.links.link, hot)
+        (hot, cold, self.links.link)
     }
 
     /// The entry in the slot of this key.
@@ -269,10 +281,35 @@ impl Slot {
     }
 }
 
+impl ColdSlot {
+    /// What is stored for an unused key.
+    pub fn unused() -> Self
+        ensures { result ≡ unused }
+    {
+        ColdSlot {
+            source: None,
+            dest: None,
+            serial: 0,
+        }
+    }
+}
+
 impl HotSlot {
+    /// The incoming tuple in direction reply.
+    #[inline(always)]
+    fn reply(&self) -> PackedTuple
+        ensures { result ≡ reply_of self.now }
+    {
+        if self.is_translated {
+            self.reply
+        } else {
+            self.original.inverse()
+        }
+    }
+
     /// Its queue.
     pub fn queue(&self) -> usize
-        ensures queue { (link : Linked) → result ≡ queue_in (whole_slot link self.now) }
+        ensures queue { (link : Linked) (cold : Cold) → result ≡ queue_in (whole_slot link cold self.now) }
         ensures range { result < 5 }
     {
         queue_by(self.original.kind(), self.phase())
@@ -287,14 +324,14 @@ impl HotSlot {
 
     /// Whether the entry is live at a moment.
     fn is_live(&self, limits: &Limits, now: Moment) -> bool
-        ensures { result ≡ is_live limits.now now (held_of 0 (whole_slot unlinked self.now)) }
+        ensures { result ≡ is_live limits.now now (held_of 0 (whole_slot unlinked unused self.now)) }
     {
         now.saturating_sub(self.last) < limit_by(*limits, self.original.kind(), self.phase())
     }
 
     /// Whether its connection is closing.
     fn is_closing(&self) -> bool
-        ensures { result ≡ is_closing (held_of 0 (whole_slot unlinked self.now)) }
+        ensures { result ≡ is_closing (held_of 0 (whole_slot unlinked unused self.now)) }
     {
         self.phase() == Phase::Closing
     }
@@ -302,13 +339,13 @@ impl HotSlot {
     /// The reference of a packet with this direction to the entry in the slot of this key.
     fn connection_ref(&self, key: usize, direction: Direction) -> ConnectionRef
         ensures { result
-            ≡ connection_ref (held_of key (whole_slot unlinked self.now)) direction }
+            ≡ connection_ref (held_of key (whole_slot unlinked unused self.now)) direction }
     {
         ConnectionRef {
             id: ConnId(key),
             direction,
             original: self.original.tuple(),
-            reply: self.reply.tuple(),
+            reply: self.reply().tuple(),
             mark: self.mark,
             replied: self.replied,
         }
@@ -317,11 +354,11 @@ impl HotSlot {
     /// The direction of a packet with this tuple, if that is an incoming tuple of the entry.
     #[inline(always)]
     pub fn direction_of(&self, tuple: Tuple) -> Option<Direction>
-        ensures { (link : Linked) → result ≡ direction_in tuple (held_of 0 (whole_slot link self.now)) }
+        ensures { (link : Linked) (cold : Cold) → result ≡ direction_in tuple (held_of 0 (whole_slot link cold self.now)) }
     {
         if self.original.is(tuple) {
             Some(Direction::Original)
-        } else if self.reply.is(tuple) {
+        } else if self.reply().is(tuple) {
             Some(Direction::Reply)
         } else {
             None
@@ -338,8 +375,8 @@ impl HotSlot {
         flags: Flags,
         now: Moment,
     ) -> Belonging
-        ensures { (link : Linked) → result
-            ≡ belonging_in limits.now now flags (held_of key (whole_slot link self.now)) direction }
+        ensures { (link : Linked) (cold : Cold) → result
+            ≡ belonging_in limits.now now flags (held_of key (whole_slot link cold self.now)) direction }
     {
         if !self.is_live(limits, now) {
             return Belonging::NotFound;
@@ -354,8 +391,8 @@ impl HotSlot {
 
     /// Updates the entry for one more packet, which sets this mark.
     pub fn touch(&mut self, direction: Direction, flags: Flags, mark: u32, now: Moment)
-        ensures { (link : Linked) → whole_slot link self.new
-            ≡ touched_slot direction flags mark now (whole_slot link self.old) }
+        ensures { (link : Linked) (cold : Cold) → whole_slot link cold self.new
+            ≡ touched_slot direction flags mark now (whole_slot link cold self.old) }
     {
         match direction {
             Direction::Original => self.from_original = self.from_original.and(flags),

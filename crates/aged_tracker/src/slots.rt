@@ -5,9 +5,10 @@ ghost use Rattle.slab.specs.Slab.{entries, get, slab_len, ContainsKey, Updates};
 ghost use Rattle.conntrack.specs.StepCounts.{Counts};
 ghost use Rattle.conntrack.specs.TableEntries.{touched};
 ghost use Rattle.aged_tracker.specs.steps.Table.{Placed, SameSize, belonging_at, held_at, held_of, link_at, numbered_entry, owner_of, queue_of, updated, with_link, with_neighbour};
+ghost use Rattle.aged_tracker.specs.steps.SlotLists.{cold_of};
 ghost use Rattle.aged_tracker.specs.declared.slot.Link.{Link as Linked};
 
-use crate::slot::{HotSlot, Link, ListLinks, Neighbour, NodeIndex, Slot};
+use crate::slot::{ColdSlot, HotSlot, Link, ListLinks, Neighbour, NodeIndex, Slot};
 use box_file::Limits;
 use conntrack::{Belonging, Connection, Direction, Flags, Memory, Moment, Steps};
 use ip_headers::Tuple;
@@ -15,12 +16,13 @@ use slab::Slab;
 use std::alloc::Global;
 use std::marker::Model;
 
-/// The slots by their keys. Links are apart from what else a slot has: of a neighbour in a queue a
-/// packet needs nothing else.
+/// The slots by their keys. What a packet uses is apart from what it doesn't, and links from both: of
+/// a neighbour in a queue a packet uses nothing else.
 #[derive(Drop)]
 pub struct Slots {
     slab: Slab<HotSlot>,
     links: Vec<Link>,
+    cold: Vec<ColdSlot>,
 }
 
 impl Model for Slots {
@@ -31,9 +33,9 @@ impl Model for Slots {
 
     ghost use Rattle.aged_tracker.specs.steps.SlotLists.{IsStored, whole};
 
-    ghost view = { λ s. whole s.slab s.links.items };
+    ghost view = { λ s. whole s.slab s.links.items s.cold.items };
 
-    ghost invariant = { λ s. IsStored s.slab s.links.items };
+    ghost invariant = { λ s. IsStored s.slab s.links.items s.cold.items };
 }
 
 /// Lengthens a list by fillers until it has a place for a key.
@@ -57,6 +59,16 @@ fn make_place<T: Copy>(list: &mut Vec<T>, key: usize, filler: T) -> Result<(), M
     list.resize(needed, filler)
 }
 
+/// What is stored for a key in the list of what packets don't use.
+fn cold_at(cold: &[ColdSlot], key: usize) -> ColdSlot
+    ensures { result ≡ cold_of cold.now key }
+{
+    match cold.get(key) {
+        Some(slot) => *slot,
+        None => ColdSlot::unused(),
+    }
+}
+
 impl Slots {
     /// No slots.
     pub fn new(alloc: Global) -> Self
@@ -67,6 +79,7 @@ impl Slots {
         Slots {
             slab: Slab::new(alloc),
             links: Vec::new(alloc),
+            cold: Vec::new(alloc),
         }
     }
 
@@ -90,6 +103,7 @@ impl Slots {
     {
         let key = self.slab.vacant_key();
         make_place(&mut self.links, key, Link::alone(0))?;
+        make_place(&mut self.cold, key, ColdSlot::unused())?;
         self.slab.reserve(1)
     }
 
@@ -140,11 +154,12 @@ impl Slots {
         ensures steps { Counts (slab_len self.now) steps.old steps.new }
     {
         steps.add(self.slab.len());
+        let cold = self.cold.as_slice();
         self.slab
             .iter()
             .map(|entry| {
-                let slot = Slot::whole(Link::alone(0), entry.1);
-                (entry.1.serial, slot.held(entry.0).connection())
+                let slot = Slot::whole(Link::alone(0), &cold_at(cold, entry.0), entry.1);
+                (slot.serial, slot.held(entry.0).connection())
             })
             .collect(alloc)
     }
@@ -159,9 +174,10 @@ impl Slots {
         ensures steps { Counts 1 steps.old steps.new }
     {
         steps.tick();
-        let (link, hot) = slot.parts();
+        let (hot, cold, link) = slot.parts();
         let key = self.slab.insert_reserved(hot);
         self.links[key] = link;
+        self.cold[key] = cold;
         key
     }
 
@@ -176,7 +192,7 @@ impl Slots {
     {
         steps.tick();
         let hot = self.slab.remove(key);
-        Slot::whole(self.links[key], &hot)
+        Slot::whole(self.links[key], &self.cold[key], &hot)
     }
 
     /// Updates the entry of one for one more packet, and returns its queue then, and the node that
