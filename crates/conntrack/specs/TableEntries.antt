@@ -99,6 +99,14 @@ belonging_without_id NotFound = NotFound
 belonging_without_id (Ends id) = Ends (record { 0 = 0 })
 belonging_without_id (Found found) = Found (ref_without_id found)
 
+-- how many slots each call of a table visits at most
+pub record SlotBounds : Type 0 where
+  pub look : ℕ
+  pub touch : ℕ
+  pub begin : ℕ
+  pub end : ℕ
+  pub age : ℕ
+
 -- a count doesn't fall, and rises by this bound at most, if there is one
 abbrev pub IsWithin : Option ℕ → ℕ → ℕ → Type 0
 IsWithin None old new = old ≤ new

@@ -1,6 +1,6 @@
 //! The interface of conntrack tables.
 ghost use Rattle.std.specs.Prelude.{◌≡◌, ◌+◌, ◌<◌, ◌≤◌, ◌↔◌, ℕ, Bool, IsTrue, List, [], ◌++◌, ◌∷◌, Option, length};
-ghost use Rattle.std.specs.Prelude.{map, false, Some, IfOk, IsOk, OnOk, OnErr, IfSome, IfNone};
+ghost use Rattle.std.specs.Prelude.{map, false, Some, IfOk, IsOk, OnOk, OnErr, IfSome, IfNone, option_map};
 ghost use Rattle.conntrack.specs.ConntrackEntry.{belongs_in};
 ghost use Rattle.conntrack.specs.TableEntries.{IsNoneLater, IsWithin, have_disjoint_tuples, begun_with};
 ghost use Rattle.conntrack.specs.ConntrackEntry.{connection_of, is_taken};
@@ -34,12 +34,13 @@ pub enum BeginError {
 }
 
 /// A conntrack table. Moments must not fall from call to call. In `steps` a table counts the slots
-/// that it visits: a call never lowers the count, and raises it by `max_slots` at most, but for
-/// `list_counted`, which visits all. A tracker is given a count and can't make one, nor read it. The
-/// clauses `distinct` and `apart` are lemmas about the receiver, not about the result.
+/// that it visits: a call never lowers the count, and raises it by its own bound in `max_slots` at
+/// most, but for `list_counted`, which visits all. A tracker is given a count and can't make one, nor
+/// read it. The clauses `distinct` and `apart` are lemmas about the receiver, not about the result.
 pub trait Tracker: Drop {
     ghost use Rattle.conntrack.specs.declared.connection.ConntrackEntry.{ConntrackEntry};
     ghost use Rattle.box_file.specs.declared.limits.Limits.{Limits};
+    ghost use Rattle.conntrack.specs.TableEntries.{SlotBounds};
 
     /// Its entries in the order of their creation, with expired ones that weren't removed yet.
     ghost held: { Self → List ConntrackEntry };
@@ -50,8 +51,8 @@ pub trait Tracker: Drop {
     /// Whether memory for the next `begin` is reserved.
     ghost has_room: { Self → Bool };
 
-    /// How many visited slots a call may count, if that is bounded.
-    ghost max_slots: { Option ℕ };
+    /// How many visited slots each call may count, if that is bounded.
+    ghost max_slots: { Option SlotBounds };
 
     /// An empty table with these timeouts, with no memory reserved for an entry. A table that
     /// hashes tuples uses keys that everybody may know: senders who choose their tuples can make it
@@ -83,7 +84,7 @@ pub trait Tracker: Drop {
             ≡ belonging_without_id (belongs (limits self.now) history now tuple flags) }
         ensures distinct { IsTrue (has_distinct_ids (held self.now)) }
         ensures apart { IsTrue (have_disjoint_tuples (held self.now)) }
-        ensures steps { IsWithin max_slots steps.old steps.new };
+        ensures steps { IsWithin (option_map (λ most. most.look) max_slots) steps.old steps.new };
 
     /// Updates the entry with this id for one more packet, which sets this mark.
     fn touch(
@@ -100,7 +101,7 @@ pub trait Tracker: Drop {
         ensures held { held self.new ≡ touched_at id direction flags mark now (held self.old) }
         ensures limits { limits self.new ≡ limits self.old }
         ensures room { IsTrue (has_room self.old) → IsTrue (has_room self.new) }
-        ensures steps { IsWithin max_slots steps.old steps.new };
+        ensures steps { IsWithin (option_map (λ most. most.touch) max_slots) steps.old steps.new };
 
     /// Reserves memory for the next `begin` that returns `Ok`. If it is reserved already nothing
     /// changes.
@@ -139,7 +140,7 @@ pub trait Tracker: Drop {
             × IsTrue (is_taken connection.reply (held self.old))) }
         ensures err { OnErr result ((held self.new ≡ held self.old) × IsTrue (has_room self.new)) }
         ensures limits { limits self.new ≡ limits self.old }
-        ensures steps { IsWithin max_slots steps.old steps.new };
+        ensures steps { IsWithin (option_map (λ most. most.begin) max_slots) steps.old steps.new };
 
     /// Removes the entry with this id.
     fn end(&mut self, id: ConnId, steps: &mut Steps) -> Aged
@@ -148,7 +149,7 @@ pub trait Tracker: Drop {
         ensures held { held self.new ≡ without id (held self.old) }
         ensures limits { limits self.new ≡ limits self.old }
         ensures room { IsTrue (has_room self.old) → IsTrue (has_room self.new) }
-        ensures steps { IsWithin max_slots steps.old steps.new };
+        ensures steps { IsWithin (option_map (λ most. most.end) max_slots) steps.old steps.new };
 
     /// Removes one entry that has expired at a moment; `None` where all are live. `distinct` is a
     /// lemma about the table before the call.
@@ -165,7 +166,7 @@ pub trait Tracker: Drop {
             × (live_at (limits self.old) now (held self.old) ≡ held self.old)) }
         ensures limits { limits self.new ≡ limits self.old }
         ensures room { IsTrue (has_room self.old) → IsTrue (has_room self.new) }
-        ensures steps { IsWithin max_slots steps.old steps.new };
+        ensures steps { IsWithin (option_map (λ most. most.age) max_slots) steps.old steps.new };
 
     /// How many entries the table holds, expired ones included.
     fn live(&self) -> usize
