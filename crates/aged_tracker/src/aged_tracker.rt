@@ -1,7 +1,7 @@
 //! A conntrack table whose calls count few visited slots.
-ghost use Rattle.std.specs.Prelude.{◌≡◌, ◌+◌, ◌<◌, ◌≤◌, [], IsTrue, Some, false};
+ghost use Rattle.std.specs.Prelude.{◌≡◌, ◌==◌, ◌+◌, ◌<◌, ◌≤◌, [], IsTrue, Some, false, if◌then◌else◌, unwrap_or};
 ghost use Rattle.conntrack.specs.ConntrackEntry.{belongs_in};
-ghost use Rattle.conntrack.specs.TableEntries.{IsWithin, has_distinct_ids, have_disjoint_tuples, live_at};
+ghost use Rattle.conntrack.specs.TableEntries.{IsNoneLater, IsWithin, has_distinct_ids, has_id, have_disjoint_tuples, live_at, touched_at};
 
 use crate::aged_slots::{AgedSlots, SECOND};
 use crate::tuple_index::TupleIndex;
@@ -18,7 +18,8 @@ use std::marker::Model;
 use word_hash::WordState;
 
 /// Keeps entries in slots that are found by an index of their incoming tuples and expire by queues.
-/// A call counts at most 7 visits of slots and of the index, however many entries there are.
+/// However many entries there are, a look-up counts at most 3 visits of slots and of the index, a
+/// beginning connection 5, one more packet, an end and ageing 7 each.
 #[derive(Drop)]
 pub struct AgedTracker {
     slots: AgedSlots,
@@ -48,6 +49,8 @@ impl Model for AgedTracker {
       limits = t.limits;
       held = held_by t.slots;
       room = has_room t.slots && nat_lt 1 (room_in t.index);
+      likely = t.likely;
+      was_likely = t.was_likely;
     } };
 
     ghost invariant = { λ t. IsConsistent t.slots (slot_in t.index) t.live t.limits t.live_until t.looked_at };
@@ -72,14 +75,15 @@ impl AgedTracker {
         }
     }
 
-    /// Looks up a packet with this tuple and these flags at a moment.
+    /// Looks up a packet with this tuple and these flags at a moment. Where its entry likely is, is
+    /// tried first only where that was so of the last packet.
     #[inline(always)]
     fn find(&self, tuple: Tuple, flags: Flags, now: Moment, steps: &mut Steps) -> Belonging
         ensures belonging { result
             ≡ belongs_in (live_at self.now.limits now self.now.held) tuple flags }
         ensures distinct { IsTrue (has_distinct_ids self.now.held) }
         ensures apart { IsTrue (have_disjoint_tuples self.now.held) }
-        ensures steps { IsWithin (Some 3) steps.old steps.new }
+        ensures steps { IsWithin (Some (if self.now.was_likely then 3 else 2)) steps.old steps.new }
     {
         if self.was_likely {
             let guessed = self
@@ -98,6 +102,41 @@ impl AgedTracker {
                 .unwrap_or(Belonging::NotFound),
         }
     }
+
+    /// Updates the entry with this id for one more packet, which sets this mark.
+    #[inline(always)]
+    fn update(
+        &mut self,
+        id: ConnId,
+        direction: Direction,
+        flags: Flags,
+        mark: u32,
+        now: Moment,
+        steps: &mut Steps,
+    )
+        requires is_held { IsTrue (has_id id self.old.held) }
+        requires later { IsNoneLater now self.old.held }
+        ensures held { self.new.held ≡ touched_at id direction flags mark now self.old.held }
+        ensures limits { self.new.limits ≡ self.old.limits }
+        ensures room { IsTrue self.old.room → IsTrue self.new.room }
+        ensures was_likely { self.new.was_likely ≡ (id.0 == self.old.likely) }
+        ensures steps { IsWithin (Some 7) steps.old steps.new }
+    {
+        let follower = self.slots.touch(id, direction, flags, mark, now, steps);
+        note_guess(&mut self.likely, &mut self.was_likely, id.0, follower);
+        note_packet(&mut self.live_until, self.looked_at, now);
+    }
+}
+
+/// Notes whether a packet's entry, which is in this slot, was where it likely was, and where the next
+/// packet's likely is: in the slot that followed in the queue, or where it was, if none did.
+#[inline(always)]
+fn note_guess(likely: &mut usize, was_likely: &mut bool, key: usize, follower: Option<usize>)
+    ensures likely { likely.new ≡ unwrap_or follower likely.old }
+    ensures was_likely { was_likely.new ≡ (key == likely.old) }
+{
+    *was_likely = key == *likely;
+    *likely = follower.unwrap_or(*likely);
 }
 
 /// Keeps until when no entry has expired, after a packet of one at a moment: that expires a second
@@ -122,7 +161,7 @@ impl Tracker for AgedTracker {
 
     ghost has_room = { λ t. t.room };
 
-    ghost max_slots = { Some 7 };
+    ghost max_slots = { Some (record { look = 3; touch = 7; begin = 5; end = 7; age = 7 }) };
 
     fn new(alloc: Global, idle: Limits) -> Self {
         Self::with_keys(alloc, WordState::published(), idle)
@@ -148,10 +187,7 @@ impl Tracker for AgedTracker {
         now: Moment,
         steps: &mut Steps,
     ) {
-        let follower = self.slots.touch(id, direction, flags, mark, now, steps);
-        self.was_likely = id.0 == self.likely;
-        self.likely = follower.unwrap_or(self.likely);
-        note_packet(&mut self.live_until, self.looked_at, now);
+        self.update(id, direction, flags, mark, now, steps);
     }
 
     fn reserve_one(&mut self) -> Result<(), Memory> {

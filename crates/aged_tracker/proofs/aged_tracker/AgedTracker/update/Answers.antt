@@ -2,7 +2,7 @@ use Rattle.std.proofs.Common.{arith}
 use Rattle.aged_tracker.proofs.Index.{has_as, indexed_touched}
 use Rattle.aged_tracker.proofs.Names.{slots_of}
 use Rattle.aged_tracker.proofs.Order.{lasting, touched_lasts}
-use Rattle.aged_tracker.proofs.aged_tracker.AgedTrackerTracker.touch.Goals as goal
+use Rattle.aged_tracker.proofs.aged_tracker.AgedTracker.update.Goals as goal
 
 pub touch-follower-requires-clause-is_held : goal.touch-follower-requires-clause-is_held
 touch-follower-requires-clause-is_held c = grind (arith, has_as, c.self.invariant.table, c.self.view_is, c.requires.is_held)
