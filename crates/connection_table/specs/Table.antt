@@ -1,14 +1,14 @@
 -- What a `ConnectionTable` shows to its users (own).
-use Rattle.std.specs.Prelude.{◌≡◌, ℕ, Bool, false, IsTrue, List}
+use Rattle.std.specs.Prelude.{◌≡◌, ◌+◌, ◌*◌, ℕ, Bool, false, IsTrue, List}
 use Rattle.ip_headers.specs.Tuple.{inverse}
 use Rattle.ip_headers.specs.declared.tuple.Tuple.{Tuple}
 use Rattle.conntrack.specs.declared.belonging.Belonging.{Belonging}
-use Rattle.conntrack.specs.declared.belonging.Belonging.TheVariants.{Found}
+use Rattle.conntrack.specs.declared.belonging.Belonging.TheVariants.{Ends, Found}
 use Rattle.conntrack.specs.declared.connection.Connection.{Connection}
 use Rattle.conntrack.specs.declared.connection.ConntrackEntry.{ConntrackEntry}
 use Rattle.box_file.specs.declared.limits.Limits.{Limits}
 use Rattle.conntrack.specs.ConntrackEntry.{is_taken}
-use Rattle.conntrack.specs.TableEntries.{has_id}
+use Rattle.conntrack.specs.TableEntries.{SlotBounds, has_id}
 use Rattle.translation.specs.declared.ct_info.NewConnection.{NewConnection}
 
 -- its timeouts; its entries in the order of their creation, with expired ones that weren't removed yet; and
@@ -35,3 +35,14 @@ begun_as new_connection mark now = record {
 abbrev pub IsConfirmable : Tuple → Belonging → List ConntrackEntry → Type 0
 IsConfirmable tuple (Found found) held = IsTrue (has_id found.id held)
 IsConfirmable tuple _ held = is_taken tuple held ≡ false
+
+-- ---- how many slots its tracker visits at most
+
+-- for the look-up of a packet: a closing connection is ended too
+abbrev pub look_up_slots : Belonging → SlotBounds → ℕ
+look_up_slots (Ends id) most = most.look + most.end
+look_up_slots _ most = most.look
+
+-- for so many expired entries, and to see that there is no other
+abbrev pub ageing_slots : ℕ → SlotBounds → ℕ
+ageing_slots removed most = (removed + 1) * most.age

@@ -1,9 +1,9 @@
 //! A conntrack table with the NAT mappings of its entries.
-ghost use Rattle.std.specs.Prelude.{◌≡◌, ◌+◌, ◌<◌, ◌≤◌, ◌↔◌, ◌++◌, ◌∷◌, [], IsTrue, List, false, length, map, IfOk, IsOk, OnErr, OnOk, Err};
+ghost use Rattle.std.specs.Prelude.{◌≡◌, ◌+◌, ◌-◌, ◌<◌, ◌≤◌, ◌↔◌, ◌++◌, ◌∷◌, [], IsTrue, List, false, length, map, option_map, IfOk, IsOk, OnErr, OnOk, Err};
 ghost use Rattle.ip_headers.specs.declared.tuple.Mapping.{Mapping};
 ghost use Rattle.conntrack.specs.declared.connection.ConnId.{ConnId as TheId};
 ghost use Rattle.conntrack.specs.ConntrackEntry.{belongs_in, connection_of};
-ghost use Rattle.conntrack.specs.TableEntries.{IsNoneLater, begun_with};
+ghost use Rattle.conntrack.specs.TableEntries.{IsNoneLater, IsWithin, begun_with};
 ghost use Rattle.conntrack.specs.ConntrackEntry.{is_taken, max_connections};
 ghost use Rattle.conntrack.specs.TableEntries.{has_distinct_ids, has_id, live_at};
 ghost use Rattle.conntrack.specs.TableEntries.{touched_at};
@@ -14,12 +14,13 @@ ghost use Rattle.nat_mapping.specs.HeldMappings.{HoldsSame, IsOneToOne, holders_
 ghost use Rattle.translation.specs.Fitting.{Fits, IsFitting};
 ghost use Rattle.translation.specs.LiveMappings.{listed, mappings_in};
 ghost use Rattle.translation.specs.CtInfos.{ct_info_by};
-ghost use Rattle.connection_table.specs.Table.{IsConfirmable, begun_as};
+ghost use Rattle.connection_table.specs.Table.{IsConfirmable, ageing_slots, begun_as, look_up_slots};
 
 use box_file::Limits;
 use conntrack::laws::{looked_up, none_later};
 use conntrack::{
-    Aged, BeginError, Belonging, ConnId, Connection, Direction, Flags, Memory, Moment, Tracker,
+    Aged, BeginError, Belonging, ConnId, Connection, Direction, Flags, Memory, Moment, Steps,
+    Tracker,
 };
 use ip_headers::{Mapping as Mapped, Tuple};
 use nat_mapping::Mappings;
@@ -27,10 +28,10 @@ use nat_mapping::laws::{same_answers, stays_one_to_one};
 use std::alloc::Global;
 use std::hash::RandomState;
 use std::marker::Model;
-use step_count::start;
 use translation::NewConnection;
 
-/// The entries of a tracker `T`, with the mappings that they were created with.
+/// The entries of a tracker `T`, with the mappings that they were created with. In `steps` calls count
+/// the slots that the tracker visits, and say how many at most.
 #[derive(Drop)]
 pub struct ConnectionTable<T: Tracker> {
     tracker: T,
@@ -99,18 +100,20 @@ impl<T: Tracker> ConnectionTable<T> {
     }
 
     /// Removes all entries that have expired at a moment, and releases their mappings.
-    pub fn age_all(&mut self, now: Moment)
+    pub fn age_all(&mut self, now: Moment, steps: &mut Steps)
         requires later { IsNoneLater now self.old.held }
         ensures held { self.new.held ≡ live_at self.old.limits now self.old.held }
         ensures limits { self.new.limits ≡ self.old.limits }
         ensures alive { live_at self.new.limits now self.new.held ≡ self.new.held }
         ensures distinct { IsTrue (has_distinct_ids self.new.held) }
         ensures room { IsTrue self.old.has_room → IsTrue self.new.has_room }
+        ensures steps { IsWithin (option_map
+            (ageing_slots (length self.old.held - length self.new.held)) T.max_slots)
+            steps.old steps.new }
     {
         // The remaining entries had no later packet either.
         none_later();
-        let mut steps = start();
-        while let Some(aged) = self.tracker.age(now, &mut steps) {
+        while let Some(aged) = self.tracker.age(now, steps) {
             release(&mut self.mappings, &aged);
         }
     }
@@ -118,7 +121,13 @@ impl<T: Tracker> ConnectionTable<T> {
     /// Looks up a packet with this tuple and these flags; expired entries must have been removed. A
     /// SYN on a closing connection removes that entry and releases its mappings, whatever the rules
     /// decide about the packet.
-    pub fn look_up(&mut self, tuple: Tuple, flags: Flags, now: Moment) -> Belonging
+    pub fn look_up(
+        &mut self,
+        tuple: Tuple,
+        flags: Flags,
+        now: Moment,
+        steps: &mut Steps,
+    ) -> Belonging
         requires live { live_at self.old.limits now self.old.held ≡ self.old.held }
         requires later { IsNoneLater now self.old.held }
         ensures belonging { result ≡ belongs_in self.old.held tuple flags }
@@ -130,15 +139,16 @@ impl<T: Tracker> ConnectionTable<T> {
         // The packet can be confirmed.
         ensures confirmable { IsConfirmable tuple result self.new.held }
         ensures fits { Fits (ct_info_by tuple result) (mappings_in self.new.held) }
+        ensures steps { IsWithin (option_map (look_up_slots result) T.max_slots)
+            steps.old steps.new }
     {
         // The entry found is in the list, or the tuple is free.
         looked_up();
         // The remaining entries had no later packet either.
         none_later();
-        let mut steps = start();
-        let belonging = self.tracker.look(tuple, flags, now, &mut steps);
+        let belonging = self.tracker.look(tuple, flags, now, steps);
         if let Belonging::Ends(id) = belonging {
-            let ended = self.tracker.end(id, &mut steps);
+            let ended = self.tracker.end(id, steps);
             release(&mut self.mappings, &ended);
         }
         // Nothing is translated yet, and the mappings are one to one.
@@ -149,13 +159,14 @@ impl<T: Tracker> ConnectionTable<T> {
     /// Looks up the connection that an ICMP error is related to, given the tuple of the quoted
     /// datagram: the one to which packets in the other direction belong. Expired entries must have
     /// been removed. It removes none.
-    pub fn look_up_error(&self, inner: Tuple, now: Moment) -> Belonging
+    pub fn look_up_error(&self, inner: Tuple, now: Moment, steps: &mut Steps) -> Belonging
         requires live { live_at self.now.limits now self.now.held ≡ self.now.held }
-        ensures { result ≡ belongs_in self.now.held (inverse inner) no_flags }
+        ensures belonging { result ≡ belongs_in self.now.held (inverse inner) no_flags }
+        ensures steps { IsWithin (option_map (λ most. most.look) T.max_slots)
+            steps.old steps.new }
     {
-        let mut steps = start();
         self.tracker
-            .look(inner.inverse(), Flags::none(), now, &mut steps)
+            .look(inner.inverse(), Flags::none(), now, steps)
     }
 
     /// The mappings held: those of the entries.
@@ -166,17 +177,26 @@ impl<T: Tracker> ConnectionTable<T> {
     }
 
     /// Updates an entry for one more packet, which sets this mark.
-    pub fn touch(&mut self, id: ConnId, direction: Direction, flags: Flags, mark: u32, now: Moment)
+    pub fn touch(
+        &mut self,
+        id: ConnId,
+        direction: Direction,
+        flags: Flags,
+        mark: u32,
+        now: Moment,
+        steps: &mut Steps,
+    )
         requires is_held { IsTrue (has_id id self.old.held) }
         requires later { IsNoneLater now self.old.held }
         ensures held { self.new.held
             ≡ touched_at id direction flags mark now self.old.held }
         ensures limits { self.new.limits ≡ self.old.limits }
         ensures room { IsTrue self.old.has_room → IsTrue self.new.has_room }
+        ensures steps { IsWithin (option_map (λ most. most.touch) T.max_slots)
+            steps.old steps.new }
     {
-        let mut steps = start();
         self.tracker
-            .touch(id, direction, flags, mark, now, &mut steps);
+            .touch(id, direction, flags, mark, now, steps);
     }
 
     /// Creates the entry of a new connection with its first packet, which had these flags and sets
@@ -192,6 +212,7 @@ impl<T: Tracker> ConnectionTable<T> {
         flags: Flags,
         mark: u32,
         now: Moment,
+        steps: &mut Steps,
     ) -> Result<(), BeginError>
         requires room { IsTrue self.old.has_room }
         requires free { is_taken new_connection.now.original self.old.held ≡ false }
@@ -206,6 +227,8 @@ impl<T: Tracker> ConnectionTable<T> {
             × IsTrue (is_taken (begun_as new_connection.now mark now).reply self.old.held)) }
         ensures err { OnErr result (self.new ≡ self.old) }
         ensures limits { self.new.limits ≡ self.old.limits }
+        ensures steps { IsWithin (option_map (λ most. most.begin) T.max_slots)
+            steps.old steps.new }
     {
         let connection = Connection {
             original: new_connection.original,
@@ -218,8 +241,7 @@ impl<T: Tracker> ConnectionTable<T> {
         // The mappings stay one to one with the new ones.
         stays_one_to_one();
         same_answers();
-        let mut steps = start();
-        self.tracker.begin(connection, flags, &mut steps)?;
+        self.tracker.begin(connection, flags, steps)?;
         hold(&mut self.mappings, new_connection.source);
         hold(&mut self.mappings, new_connection.dest);
         Ok(())

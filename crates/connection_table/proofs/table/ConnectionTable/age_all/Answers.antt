@@ -1,6 +1,7 @@
-use Rattle.std.proofs.Common.{◌∙◌, arith}
+use Rattle.std.proofs.Common.{◌∙◌, arith, length, ◌-◌}
 use Rattle.std.proofs.lemmas.Bool.{and_parts, and_from, leb-true, le-leb}
 use Rattle.connection_table.proofs.Taken.{released_with_removed}
+use Rattle.connection_table.proofs.Visits.{one_more_age}
 use Rattle.connection_table.proofs.table.ConnectionTable.age_all.Goals as goal
 
 pub release-requires : goal.release-requires
@@ -19,6 +20,7 @@ loop-aged-preserved g c =
     let aged = c.in-Some.aged in
     let of = c.in-Some.ensures in
     let before = released_with_removed aged.id held aged mappings of.distinct of.some.0 c.loop-aged.invariant.mapped in
+    let first = length c.args.self.now.held in
     record {
       same = c.age.ensures.limits ∙ c.loop-aged.invariant.same;
       live = (rw c.loop-aged.invariant.same at c.in-Some.ensures.some).2 ∙ c.loop-aged.invariant.live;
@@ -28,4 +30,7 @@ loop-aged-preserved g c =
           let parts = and_parts _ _ (c.loop-aged.invariant.room r) in
           let two = leb-true 2 _ parts.1 in
           and_from _ _ (c.age.ensures.room parts.0) (le-leb 2 _ (omega (arith, two, c.release.ensures.room)));
+      fewer = omega (arith, of.fewer, c.loop-aged.invariant.fewer);
+      steps = one_more_age g.T.Tracker.max_slots (first - length held) (first - length (g.T.Tracker.held c.age.new.self)) _ _ _
+          (omega (arith, of.fewer, c.loop-aged.invariant.fewer)) c.loop-aged.invariant.steps of.steps;
     }
