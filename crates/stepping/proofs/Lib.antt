@@ -5,3 +5,4 @@ mod Processing
 mod Extending
 mod FoundInterfaces
 mod StepsTaken
+mod Visits

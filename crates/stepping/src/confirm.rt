@@ -1,24 +1,24 @@
 //! The end of a packet's path, as nf_conntrack_confirm: refreshes or begins its connection.
-ghost use Rattle.std.specs.Prelude.{◌≡◌, IsTrue, false};
+ghost use Rattle.std.specs.Prelude.{◌≡◌, IsTrue, false, option_map};
 ghost use Rattle.conntrack.specs.ConntrackEntry.{is_taken};
-ghost use Rattle.conntrack.specs.TableEntries.{IsNoneLater};
+ghost use Rattle.conntrack.specs.TableEntries.{IsNoneLater, IsWithin};
 ghost use Rattle.conntrack.specs.declared.connection.ConnId.{ConnId as TheId};
 ghost use Rattle.translation.specs.declared.ct_info.CtInfo.TheVariants.{New};
 ghost use Rattle.translation.specs.CtInfos.{untranslated};
 ghost use Rattle.translation.specs.Fitting.{Fits, IsFitting};
 ghost use Rattle.translation.specs.LiveMappings.{mappings_in};
 ghost use Rattle.stepping.specs.Confirmations.{mark_in};
-ghost use Rattle.stepping.specs.steps.Confirming.{CanConfirm, Confirms, begun_in};
+ghost use Rattle.stepping.specs.steps.Confirming.{CanConfirm, Confirms, begun_in, confirmation_slots};
 
 use crate::state::PacketState;
 use connection_table::ConnectionTable;
-use conntrack::{BeginError, Flags, Moment, Tracker};
+use conntrack::{BeginError, Flags, Moment, Steps, Tracker};
 use history::Cause;
 use rule_meaning::CtFacts;
 use translation::{CtInfo, NewConnection};
 
 /// Confirms a packet that the hooks let through: refreshes its connection, or begins a new one.
-/// Says whether it began one.
+/// Says whether it began one. In `steps` the visits of its table's slots are counted.
 ///
 /// # Errors
 /// `Full` or `Clash` where a new connection can't begin; then it holds no mapping either.
@@ -27,6 +27,7 @@ pub fn confirm<T: Tracker>(
     flags: Flags,
     now: Moment,
     state: &PacketState,
+    steps: &mut Steps,
 ) -> Result<bool, Cause>
     requires confirmable { CanConfirm state.now.entry (untranslated state.now.info)
         connections.old.held }
@@ -38,14 +39,16 @@ pub fn confirm<T: Tracker>(
     ensures limits { connections.new.limits ≡ connections.old.limits }
     // Only a new connection takes what is reserved.
     ensures room { begun_in result ≡ false → IsTrue connections.new.has_room }
+    ensures steps { IsWithin (option_map (confirmation_slots state.now.info) T.max_slots)
+        steps.old steps.new }
 {
     let mark = mark_in(state.facts.ct);
     match &state.info {
         CtInfo::Tracked(connection) => {
-            connections.touch(state.entry, connection.direction, flags, mark, now);
+            connections.touch(state.entry, connection.direction, flags, mark, now, steps);
             Ok(false)
         }
-        CtInfo::New(new_connection) => begin(connections, new_connection, flags, mark, now),
+        CtInfo::New(new_connection) => begin(connections, new_connection, flags, mark, now, steps),
         // An ICMP error doesn't refresh its connection.
         _ => Ok(false),
     }
@@ -61,6 +64,7 @@ fn begin<T: Tracker>(
     flags: Flags,
     mark: u32,
     now: Moment,
+    steps: &mut Steps,
 ) -> Result<bool, Cause>
     requires free { is_taken new_connection.now.original connections.old.held ≡ false }
     requires later { IsNoneLater now connections.old.held }
@@ -71,8 +75,9 @@ fn begin<T: Tracker>(
         connections.new.held result }
     ensures limits { connections.new.limits ≡ connections.old.limits }
     ensures room { begun_in result ≡ false → IsTrue connections.new.has_room }
+    ensures steps { IsWithin (option_map (λ most. most.begin) T.max_slots) steps.old steps.new }
 {
-    match connections.begin(new_connection, flags, mark, now) {
+    match connections.begin(new_connection, flags, mark, now, steps) {
         Ok(()) => Ok(true),
         Err(BeginError::Full) => Err(Cause::Full),
         Err(BeginError::Clash) => Err(Cause::Clash),

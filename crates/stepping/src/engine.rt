@@ -28,6 +28,7 @@ use rule_check::Checked;
 use std::alloc::{AllocError as Memory, Global};
 use std::hash::RandomState;
 use std::marker::Model;
+use step_count::start;
 
 /// A box with its ruleset and its state after the records so far. `T` is the connection tracker.
 pub struct Engine<T: Tracker> {
@@ -229,7 +230,8 @@ impl<T: Tracker> Engine<T> {
         self.packet.clear();
         self.events.clear();
         let now = self.latest.max(record.moment);
-        self.connections.age_all(now);
+        let mut aged = start();
+        self.connections.age_all(now, &mut aged);
         let ended = process_record(
             &self.setup,
             record,

@@ -1,15 +1,15 @@
 //! Processes a record.
-ghost use Rattle.std.specs.Prelude.{◌≡◌, IsTrue, false, [], Some};
+ghost use Rattle.std.specs.Prelude.{◌≡◌, IsTrue, false, [], Some, option_map};
 ghost use Rattle.history.specs.declared.outcome.Outcome.TheVariants as outcomes;
 ghost use Rattle.ip_headers.specs.Header.{transport_of};
-ghost use Rattle.conntrack.specs.TableEntries.{IsNoneLater, live_at};
+ghost use Rattle.conntrack.specs.TableEntries.{IsNoneLater, IsWithin, live_at};
 ghost use Rattle.hook_runs.specs.Stages.{total_stage_cost};
 ghost use Rattle.translation.specs.declared.ct_info.CtInfo.TheVariants.{Untracked};
 ghost use Rattle.stepping.specs.Carried.{carried};
 ghost use Rattle.stepping.specs.Next.{Path, outcome_by, sent_on};
 ghost use Rattle.stepping.specs.Representing.{recorded_of};
 ghost use Rattle.stepping.specs.steps.Confirming.{begun_in};
-ghost use Rattle.stepping.specs.steps.Processing.{Follows, HasProcessed};
+ghost use Rattle.stepping.specs.steps.Processing.{Follows, HasProcessed, packet_slots};
 ghost use Rattle.stepping.specs.steps.Steps.{Spends, path_state, setup_in, step_result};
 
 use crate::arrival::{IncomingPacket, carried};
@@ -20,12 +20,13 @@ use crate::packet_buffer::PacketBuffer;
 use crate::setup::Setup;
 use crate::state::PacketState;
 use connection_table::ConnectionTable;
-use conntrack::{Moment, Tracker};
+use conntrack::{Moment, Steps, Tracker};
 use history::{Cause, Outcome};
 use hook_runs::{Events, HookStage};
 use ip_headers::View;
 use pcap_io::Record;
 use rule_meaning::Interface;
+use step_count::start;
 
 /// The result of a record.
 #[derive(Clone, Copy)]
@@ -68,7 +69,9 @@ pub fn process_record<T: Tracker>(
     };
     let length = view.total_length();
     state.receive(&view, input);
-    match process_packet(setup, &view, now, connections, state, events) {
+    // Of its table's slots; nothing reads it.
+    let mut steps = start();
+    match process_packet(setup, &view, now, connections, state, events, &mut steps) {
         Ok(begun) => {
             send(&view, state, packet);
             RecordResult {
@@ -82,7 +85,8 @@ pub fn process_record<T: Tracker>(
 }
 
 /// Processes one packet: raw prerouting, the look-up, the other hooks with routing, and the
-/// confirmation. Says whether it began a connection.
+/// confirmation. Says whether it began a connection. In `steps` the visits of its table's slots are
+/// counted.
 ///
 /// # Errors
 /// The cause for which the packet is dropped.
@@ -94,6 +98,7 @@ fn process_packet<T: Tracker>(
     connections: &mut ConnectionTable<T>,
     state: &mut PacketState,
     events: &mut Events,
+    steps: &mut Steps,
 ) -> Result<bool, Cause>
     requires live { live_at connections.old.limits now connections.old.held ≡ connections.old.held }
     requires later { IsNoneLater now connections.old.held }
@@ -109,12 +114,15 @@ fn process_packet<T: Tracker>(
     ensures limits { connections.new.limits ≡ connections.old.limits }
     ensures room { begun_in result ≡ false → IsTrue connections.new.has_room }
     ensures spent { Spends events.old events.new (total_stage_cost setup.now.hooks) }
+    ensures steps { IsWithin (option_map
+        (packet_slots connections.old.held view.now.packet.now) T.max_slots)
+        steps.old steps.new }
 {
     let flags = flags_in(state.facts.packet.transport);
     setup.run(HookStage::PreroutingRaw, state, events)?;
-    look_up(connections, view, flags, now, state);
+    look_up(connections, view, flags, now, state, steps);
     run_hooks(setup, connections.mappings(), state, events)?;
-    confirm(connections, flags, now, state)
+    confirm(connections, flags, now, state, steps)
 }
 
 /// Writes the packet as it leaves, if it is forwarded: with its tuple after NAT and its TTL

@@ -6,7 +6,7 @@ use Rattle.conntrack.specs.declared.connection.ConntrackEntry.{ConntrackEntry}
 use Rattle.conntrack.specs.declared.belonging.Belonging.{Belonging}
 use Rattle.conntrack.specs.declared.belonging.Belonging.TheVariants.{Found}
 use Rattle.conntrack.specs.ConntrackEntry.{is_taken}
-use Rattle.conntrack.specs.TableEntries.{has_id, touched_at}
+use Rattle.conntrack.specs.TableEntries.{SlotBounds, has_id, touched_at}
 use Rattle.conntrack.specs.Updates.{Confirmation, Unconfirmed, Confirmed, with_begun}
 use Rattle.history.specs.declared.outcome.Cause.{Cause}
 use Rattle.translation.specs.declared.ct_info.CtInfo.{CtInfo}
@@ -66,3 +66,9 @@ pub record Confirms (now : ℕ) (flags : Flags) (entry : ConnId) (info : CtInfo)
   pub step : (s : PathState) → step_result answer s ≡ confirmed old info s
   pub held : new ≡ confirmed_in id flags now entry info (confirmation_in answer info mark) old
   pub begun : begun_in answer ≡ begins info (confirmation_in answer info mark)
+
+-- how many slots of the table the confirmation of a packet in this state visits at most
+abbrev pub confirmation_slots : CtInfo → SlotBounds → ℕ
+confirmation_slots (Tracked connection) most = most.touch
+confirmation_slots (New new_connection) most = most.begin
+confirmation_slots _ most = 0

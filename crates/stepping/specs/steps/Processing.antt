@@ -1,13 +1,14 @@
 -- The processing of a record in the code's terms: the connections held before and after.
-use Rattle.std.specs.Prelude.{◌≡◌, ℕ, ◌<◌, ◌≤◌, Bool, false, IsTrue, List, [], ◌∷◌, length, map, Option, Some, None}
+use Rattle.std.specs.Prelude.{◌≡◌, ℕ, ◌+◌, ◌<◌, ◌≤◌, Bool, false, IsTrue, List, [], ◌∷◌, length, map, Option, Some, None}
 use Rattle.std.specs.Prelude.{Result, Ok, Err}
 use Rattle.ip_headers.specs.declared.tuple.Tuple.{Tuple}
 use Rattle.ip_headers.specs.Header.{total_len}
+use Rattle.ip_headers.specs.Tuple.{tuple_of}
 use Rattle.conntrack.specs.declared.connection.ConnId.{ConnId}
 use Rattle.conntrack.specs.declared.connection.ConntrackEntry.{ConntrackEntry}
-use Rattle.connection_table.specs.Table.{Table}
+use Rattle.connection_table.specs.Table.{Table, look_up_slots}
 use Rattle.conntrack.specs.ConntrackEntry.{without_id}
-use Rattle.conntrack.specs.TableEntries.{IsNoneLater}
+use Rattle.conntrack.specs.TableEntries.{IsNoneLater, SlotBounds}
 use Rattle.conntrack.specs.Histories.{is_creation}
 use Rattle.conntrack.specs.Updates.{Confirmation, after_packet}
 use Rattle.rule_meaning.specs.declared.event.Event.{Event}
@@ -19,12 +20,13 @@ use Rattle.history.specs.Setup.{Setup, limits_of}
 use Rattle.stepping.specs.declared.arrival.IncomingPacket.{IncomingPacket}
 use Rattle.stepping.specs.declared.process.RecordResult.{RecordResult}
 use Rattle.stepping.specs.Carried.{ReceivedPacket, interface_facts}
-use Rattle.stepping.specs.Lookups.{belonging_of}
+use Rattle.stepping.specs.Lookups.{belonging_of, ct_info_by_tuple}
 use Rattle.stepping.specs.Paths.{StepResult, on_arrival}
 use Rattle.stepping.specs.Confirmations.{confirmation_of}
 use Rattle.pcap_io.specs.Pcap.{Recorded}
 use Rattle.stepping.specs.Next.{Next, Path, arrival_of, final_state, outcome_of, sent_on, tracked_as, tuple_in}
 use Rattle.stepping.specs.Representing as represents
+use Rattle.stepping.specs.steps.Confirming.{confirmation_slots}
 use Rattle.filter_vm.specs.declared.events.TheConstants.{MOST_EVENTS}
 
 -- before the first record: time 0, no packet, no connections
@@ -77,6 +79,13 @@ pub record Follows (now : ℕ) (p : List ℕ) (r : StepResult) (begun : Bool) (o
   pub id : ConnId
   pub held : new ≡ held_by now id p (tuple_in p r) (confirmation_of r) old
   pub begins : begun ≡ is_creation (tracked_as now old p (tuple_in p r) (confirmation_of r)).change
+
+-- ---- the slots of their table
+
+-- how many of them the look-up and the confirmation of a packet visit at most
+abbrev pub packet_slots : List ConntrackEntry → List ℕ → SlotBounds → ℕ
+packet_slots held p most =
+    look_up_slots (belonging_of held p) most + confirmation_slots (ct_info_by_tuple held p (tuple_of p)) most
 
 -- ---- the answers
 

@@ -1,6 +1,8 @@
 use Rattle.stepping.proofs.Names.{Continue, CtInfo, Notrack, PathState, [], ap, err_from_is_err_and, flags_in, goes_on, looked_up_info, others_beside}
 use Rattle.stepping.proofs.Names.{path_state, refl, stops, untranslated, ◌∙◌, ◌≡◌}
 use Rattle.stepping.proofs.Processing.{confirmed_follows, dropped_follows}
+use Rattle.stepping.proofs.Visits.{unvisited, visits_confirmed, visits_dropped}
+use Rattle.stepping.specs.steps.Processing.{packet_slots}
 use Rattle.stepping.proofs.process.process_packet.Goals as goal
 
 pub returns-in_err-run-clause-path : goal.returns-in_err-run-clause-path
@@ -51,3 +53,18 @@ returns-clause-follows g c =
     confirmed_follows c.run.new.state.entry p old c.args.now ct _ c.confirm.result (path_state c.run_hooks.new.state c.run_hooks.new.events)
     (c.in_ok-run_hooks.ensures.took.same ∙ ap untranslated info)
     (rw (flags, c.in_ok-run_hooks.ensures.took.entry, look.ensures.entry, look.ensures.held, info) at c.confirm.ensures.confirms)
+
+pub returns-in_err-run-clause-steps : goal.returns-in_err-run-clause-steps
+returns-in_err-run-clause-steps g c =
+    unvisited g.T.Tracker.max_slots (packet_slots c.args.connections.now.held c.args.view.now.packet.now) c.args.steps.now
+
+pub returns-in_err-run_hooks-clause-steps : goal.returns-in_err-run_hooks-clause-steps
+returns-in_err-run_hooks-clause-steps g c =
+    visits_dropped g.T.Tracker.max_slots c.args.connections.now.held c.args.view.now.packet.now _ _ c.look_up.ensures.steps
+
+pub returns-clause-steps : goal.returns-clause-steps
+returns-clause-steps g c =
+    let look = c.look_up in
+    let info = ap (λ (s : PathState). s.info) (look.ensures.step c.run.new.events) in
+    visits_confirmed g.T.Tracker.max_slots c.args.connections.now.held c.args.view.now.packet.now c.run.new.state.facts.ct
+    c.run_hooks.new.state.info _ _ _ (c.in_ok-run_hooks.ensures.took.same ∙ ap untranslated info) look.ensures.steps c.confirm.ensures.steps
