@@ -1,5 +1,5 @@
 //! Lookup tables that actions refer to by index.
-ghost use Rattle.std.specs.Prelude.{◌≡◌, false, map, slice_get, IfOk, OnOk};
+ghost use Rattle.std.specs.Prelude.{◌≡◌, ◌+◌, false, length, map, slice_get, IfOk, OnOk};
 ghost use Rattle.std.specs.Option.{option_map};
 ghost use Rattle.nft_tree.specs.TreeViews.{element_tree, map_ref_tree, pair_tree, set_ref_tree};
 ghost use Rattle.nft_tree.specs.ComparedTypes.{selector_compared_type};
@@ -7,7 +7,7 @@ ghost use Rattle.nft_tree.specs.declared.compared_types.ComparedType.TheVariants
 ghost use Rattle.rule_types.specs.Types.{is_too_wide, lookup_mismatches, map_ref_mismatches};
 ghost use Rattle.rule_meaning.specs.Sets.{data_number, data_verdict, elements_have, map_gives, pairs_give, set_has};
 ghost use Rattle.rule_meaning.specs.Statements.{rule_verdict_of};
-ghost use Rattle.lowering.specs.Lowered.{Extends, HasDeclared, Keeps, scope_of};
+ghost use Rattle.lowering.specs.Lowered.{AddsFewTables, Extends, HasDeclared, Keeps, scope_of};
 ghost use Rattle.lowering.specs.steps.Tables.{IsNumberType};
 ghost use Rattle.lowering.specs.steps.Actions.{HasNumbers, HasSet, HasVerdicts};
 
@@ -26,6 +26,7 @@ fn add_table<V: Drop>(
     table: Intervals<V>,
 ) -> Result<usize, AllocError>
     ensures keeps { OnOk result (Keeps tables.old.items tables.new.items) }
+    ensures long { OnOk result (length tables.new.items ≡ length tables.old.items + 1) }
     ensures at { IfOk result (λ i. slice_get tables.new.items i ≡ Some table) }
 {
     let number = tables.len();
@@ -43,6 +44,7 @@ fn add_set(
 ) -> Result<usize, AllocError>
     requires { is_too_wide (map selector_compared_type selectors.now) ≡ false }
     ensures extends { OnOk result (Extends lookups.old lookups.new) }
+    ensures few { OnOk result (AddsFewTables lookups.old lookups.new) }
     ensures has { IfOk result (HasSet lookups.new
         (elements_have network.now (map selector_compared_type selectors.now)
         (map element_tree elements.now))) }
@@ -64,6 +66,7 @@ pub(crate) fn set_index(
     requires declared { HasDeclared network.now names.now lookups.old }
     requires types { lookup_mismatches names.now selectors.now (set_ref_tree set.now) ≡ false }
     ensures extends { OnOk result (Extends lookups.old lookups.new) }
+    ensures few { OnOk result (AddsFewTables lookups.old lookups.new) }
     ensures has { IfOk result (HasSet lookups.new
         (set_has (scope_of network.now names.now) selectors.now (set_ref_tree set.now))) }
 {
@@ -87,6 +90,7 @@ fn add_verdicts(
     lookups: &mut Lookups,
 ) -> Result<usize, AllocError>
     ensures extends { OnOk result (Extends lookups.old lookups.new) }
+    ensures few { OnOk result (AddsFewTables lookups.old lookups.new) }
     ensures gives { IfOk result (HasVerdicts lookups.new (λ n. option_map (rule_verdict_of names.now)
         (pairs_give data_verdict network.now (selector_compared_type selector)
         (map pair_tree pairs.now) n))) }
@@ -108,6 +112,7 @@ pub(crate) fn verdict_map_index(
     requires declared { HasDeclared network.now names.now lookups.old }
     requires types { map_ref_mismatches names.now selector None (map_ref_tree map.now) ≡ false }
     ensures extends { OnOk result (Extends lookups.old lookups.new) }
+    ensures few { OnOk result (AddsFewTables lookups.old lookups.new) }
     ensures gives { IfOk result (HasVerdicts lookups.new (λ n. option_map (rule_verdict_of names.now)
         (map_gives data_verdict (scope_of network.now names.now) selector (map_ref_tree map.now)
         n))) }
@@ -133,6 +138,7 @@ fn add_numbers(
 ) -> Result<usize, AllocError>
     requires { IsNumberType given }
     ensures extends { OnOk result (Extends lookups.old lookups.new) }
+    ensures few { OnOk result (AddsFewTables lookups.old lookups.new) }
     ensures gives { IfOk result (HasNumbers lookups.new
         (pairs_give (data_number network.now (Named given)) network.now
         (selector_compared_type selector) (map pair_tree pairs.now))) }
@@ -156,6 +162,7 @@ pub(crate) fn number_map_index(
     requires types { map_ref_mismatches names.now look.now.selector (Some (Named given))
         (map_ref_tree look.now.map) ≡ false }
     ensures extends { OnOk result (Extends lookups.old lookups.new) }
+    ensures few { OnOk result (AddsFewTables lookups.old lookups.new) }
     ensures gives { IfOk result (HasNumbers lookups.new
         (map_gives (data_number network.now (Named given)) (scope_of network.now names.now)
         look.now.selector (map_ref_tree look.now.map))) }

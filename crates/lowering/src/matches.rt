@@ -8,7 +8,7 @@ ghost use Rattle.rule_meaning.specs.Selectors.{value};
 ghost use Rattle.rule_meaning.specs.Matches.{bit_selector, bit_type, bits_of, bits_pass, compares_with, flag_number};
 ghost use Rattle.rule_meaning.specs.Matches.{flags_of, holds, tests, union, word_number};
 ghost use Rattle.rule_meaning.specs.Statements.{passes_if};
-ghost use Rattle.lowering.specs.Lowered.{Extends, HasDeclared, scope_of};
+ghost use Rattle.lowering.specs.Lowered.{AddsFewTables, Extends, HasDeclared, scope_of};
 ghost use Rattle.lowering.specs.steps.Actions.{AlwaysHasEffect, HasEffect};
 
 use crate::lookup_tables::set_index;
@@ -128,6 +128,7 @@ pub(crate) fn lower_match(
     requires declared { HasDeclared network.now names.now lookups.old }
     requires types { match_mismatches names.now (match_tree test.now) ≡ false }
     ensures extends { OnOk result (Extends lookups.old lookups.new) }
+    ensures few { OnOk result (AddsFewTables lookups.old lookups.new) }
     ensures effect { IfOk result (HasEffect lookups.new
         (λ f. passes_if (holds (scope_of network.now names.now) (match_tree test.now) f))) }
 {

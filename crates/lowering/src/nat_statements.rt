@@ -6,7 +6,7 @@ ghost use Rattle.nft_tree.specs.Tree as tree;
 ghost use Rattle.rule_types.specs.Types.{statement_mismatches};
 ghost use Rattle.rule_values.specs.Faults.{are_ports, if_some, is_port, nat_out_of_range};
 ghost use Rattle.rule_meaning.specs.Statements.{give, port_interval_of, nat_action_of, with_value};
-ghost use Rattle.lowering.specs.Lowered.{Extends, HasDeclared, scope_of};
+ghost use Rattle.lowering.specs.Lowered.{AddsFewTables, Extends, HasDeclared, scope_of};
 ghost use Rattle.lowering.specs.steps.Actions.{HasEffect};
 
 use crate::lookup_tables::number_map_index;
@@ -83,6 +83,7 @@ pub(crate) fn lower_nat(
     requires types { statement_mismatches names.now (tree.nat (nat_tree nat.now)) ≡ false }
     requires bounds { nat_out_of_range (nat_tree nat.now) ≡ false }
     ensures extends { OnOk result (Extends lookups.old lookups.new) }
+    ensures few { OnOk result (AddsFewTables lookups.old lookups.new) }
     ensures effect { IfOk result (HasEffect lookups.new
         (λ f. with_value (λ t. give (RuleVerdict.Translate t))
         (nat_action_of (scope_of network.now names.now) (nat_tree nat.now) f))) }

@@ -6,7 +6,7 @@ ghost use Rattle.rule_types.specs.Types.{statement_mismatches};
 ghost use Rattle.rule_values.specs.Faults.{statement_out_of_range};
 ghost use Rattle.rule_meaning.specs.Statements.{operand_number};
 ghost use Rattle.rule_code.specs.declared.code.Lookups.{Lookups};
-ghost use Rattle.lowering.specs.Lowered.{HasDeclared, Extends, HasEffectOf, scope_of};
+ghost use Rattle.lowering.specs.Lowered.{AddsFewTables, HasDeclared, Extends, HasEffectOf, scope_of};
 ghost use Rattle.lowering.specs.steps.Actions.{ReadsAs};
 
 use crate::lookup_tables::{number_map_index, verdict_map_index};
@@ -35,6 +35,7 @@ fn lower_operand(
     requires bounds { statement_out_of_range (tree.set_mark field (operand_tree operand.now))
         ≡ false }
     ensures extends { OnOk result (Extends lookups.old lookups.new) }
+    ensures few { OnOk result (AddsFewTables lookups.old lookups.new) }
     ensures reads { IfOk result (ReadsAs lookups.new
         (operand_number (scope_of network.now names.now) (operand_tree operand.now))) }
 {
@@ -66,6 +67,7 @@ pub fn action(
     requires types { statement_mismatches names.now (statement stmt.now) ≡ false }
     requires bounds { statement_out_of_range (statement stmt.now) ≡ false }
     ensures extends { OnOk result (Extends lookups.old lookups.new) }
+    ensures few { OnOk result (AddsFewTables lookups.old lookups.new) }
     ensures effect { IfOk result (λ action. (later : Lookups) → Extends lookups.new later
         → HasEffectOf network.now names.now later position (statement stmt.now) action) }
 {
