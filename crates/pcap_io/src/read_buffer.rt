@@ -1,6 +1,9 @@
 //! A read buffer of constant size.
-ghost use Rattle.std.specs.Prelude.{◌≡◌, ◌<◌, ◌≤◌, ◌+◌, ◌++◌, [], length, take, drop, vec_len, vec_capacity, true, false, IfOk, OnOk, OnErr};
-ghost use Rattle.std.specs.Io.KnownBytes.{Keeps};
+ghost use Rattle.std.specs.Prelude.{◌≡◌, ◌<◌, ◌≤◌, ◌+◌, ◌++◌, ◌-◌, [], length, min, take, drop, vec_len, vec_capacity, true, false, IfOk, OnOk, OnErr};
+ghost use Rattle.std.specs.Io.{ReadsAtMost};
+ghost use Rattle.std.specs.Io.KnownBytes.{Keeps, ReadConsumes};
+ghost use Rattle.devices.specs.CountedCalls.{CountsFailure};
+ghost use Rattle.pcap_io.specs.declared.read_buffer.TheConstants.{MOST_READ};
 ghost use Rattle.devices.specs.Counting.{one_failure};
 ghost use Rattle.pcap_io.specs.ReadAhead.{READ_AHEAD};
 ghost use Rattle.pcap_io.specs.steps.ReadAhead as ahead;
@@ -8,11 +11,15 @@ ghost use Rattle.pcap_io.specs.steps.ReadAhead.{BufferState, FillsBuffer};
 
 use devices::{Counted, DeviceFailed};
 use std::alloc::{AllocError, Global};
-use std::io::Read;
+use std::io::{self, Read};
 use std::marker::Model;
 
 /// The length of the largest record with its header.
 pub const READ_BUFFER_BYTES: usize = 262_160;
+
+/// How many bytes one read asks for at most: so few that most bytes are read to where the last ones
+/// were, which the processor's cache has still.
+const MOST_READ: usize = 65_536;
 
 /// Bytes that were read: the ones taken last, and behind them the ones not taken yet.
 #[derive(Drop)]
@@ -84,11 +91,11 @@ impl ReadBuffer {
             × Keeps (R.remaining reader.old.inner) (R.remaining reader.new.inner)) }
         ensures device { OnErr result (reader.new.failures ≡ one_failure reader.old.failures) }
         ensures short { length self.new.held ≤ READ_AHEAD }
-        // The reader is offered all the room that is left.
-        ensures room { reader.new.room + length self.old.held ≡ READ_AHEAD }
+        // The reader is offered all the room that is left, up to the most that one read asks for.
+        ensures room { reader.new.room ≡ min MOST_READ (READ_AHEAD - length self.old.held) }
     {
         self.compact();
-        match reader.read(&mut self.bytes[self.end..]) {
+        match read_front(reader, &mut self.bytes[self.end..]) {
             Ok(0) => self.is_ended = true,
             Ok(count) => self.end += count,
             Err(_) => return Err(DeviceFailed),
@@ -129,6 +136,19 @@ impl ReadBuffer {
     {
         &self.bytes[self.start - count..self.start]
     }
+}
+
+/// Reads once to the front of a buffer, `MOST_READ` bytes at most.
+fn read_front<R: Read>(reader: &mut Counted<R>, buf: &mut [u8]) -> io::Result<usize>
+    ensures bound { ReadsAtMost result buf.new }
+    ensures bytes { ReadConsumes (R.remaining reader.old.inner) (R.remaining reader.new.inner)
+        result buf.new }
+    ensures counts { CountsFailure result reader.old.failures reader.new.failures }
+    ensures long { length buf.new ≡ length buf.old }
+    ensures room { reader.new.room ≡ min MOST_READ (length buf.old) }
+{
+    let most = buf.len().min(MOST_READ);
+    reader.read(&mut buf[..most])
 }
 
 /// So many zeros, with room for no more.
