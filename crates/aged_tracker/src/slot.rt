@@ -193,6 +193,7 @@ const _: () = prove!(size_of::<Link>() == 8);
 
 impl Slot {
     /// A slot with an entry, in no list.
+    #[inline(always)]
     pub fn new(held: &ConntrackEntry, serial: u64) -> Self
         ensures held { (key : ℕ) → held_of key result
             ≡ record held.now { id = record { 0 = key } } }
@@ -240,6 +241,7 @@ impl Slot {
     }
 
     /// The parts that are stored apart: its links are the third.
+    #[inline(always)]
     pub fn parts(&self) -> (HotSlot, ColdSlot, Link)
         ensures { whole_slot result.2 result.1 result.0 ≡ self.now }
     {

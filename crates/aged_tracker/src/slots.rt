@@ -38,7 +38,8 @@ impl Model for Slots {
     ghost invariant = { λ s. IsStored s.slab s.links.items s.cold.items };
 }
 
-/// Lengthens a list by fillers until it has a place for a key.
+/// Lengthens a list by fillers until it has a place for a key, to twice its length at least, so that
+/// few calls do.
 ///
 /// # Errors
 ///
@@ -56,7 +57,8 @@ fn make_place<T: Copy>(list: &mut Vec<T>, key: usize, filler: T) -> Result<(), M
     let Some(needed) = key.checked_add(1) else {
         return Err(Memory);
     };
-    list.resize(needed, filler)
+    let twice = list.len().saturating_mul(2);
+    list.resize(needed.max(twice), filler)
 }
 
 /// What is stored for a key in the list of what packets don't use.
