@@ -131,6 +131,7 @@ module _ (network : PlantTree) (number : ℕ) (t : TableTree) where
         steps = λ i x h. h;
         chain_offsets = λ i x h. rw pushed (keeps_push now.chain_offsets.items (length now.steps.items) i x h);
         lookups = extends_itself now.lookups;
+        few = omega arith;
       }) added.adds.extends_code
 
       here : IsPlaced new place added.left
