@@ -1,6 +1,6 @@
 -- Slots, put together from the lists that they are stored in.
-use Rattle.std.proofs.Common.{IsSome, List, None, Option, Some, [], add-zero, ap, arith, cond, get_or, is_some, length, map, refl, set, subst, suc, sym}
-use Rattle.std.proofs.Common.{zero, ℕ, ◌&&◌, ◌+◌, ◌<◌, ◌∙◌, ◌∷◌, ◌≡◌, ◌≢◌, ◌≤◌, ◌-◌, zero-add}
+use Rattle.std.proofs.Common.{IsSome, List, None, Option, Some, [], add-zero, ap, arith, cond, get_or, is_some, length, map}
+use Rattle.std.proofs.Common.{refl, set, subst, suc, sym, zero, ℕ, ◌&&◌, ◌+◌, ◌<◌, ◌∙◌, ◌∷◌, ◌≡◌, ◌≢◌, ◌≤◌, ◌-◌, zero-add}
 use Rattle.std.specs.Prelude.{IsTrue, count_by, nat_lt, option_map}
 use Rattle.std.proofs.lemmas.List.{get_or-set_other, get_or-set_same}
 use Rattle.std.proofs.lemmas.List.Sums.{sum_by-cons, sum_by-set}
@@ -15,7 +15,8 @@ use Rattle.aged_tracker.specs.declared.slot.HotSlot.{HotSlot}
 use Rattle.aged_tracker.specs.declared.slot.Link.{Link}
 use Rattle.aged_tracker.specs.declared.slot.ListLinks.{ListLinks}
 use Rattle.aged_tracker.specs.declared.slot.Slot.{Slot}
-use Rattle.aged_tracker.specs.steps.SlotLists.{IsStored, cold_of, has_place, link_of, map_slots, slot_at, unlinked, unused, whole, whole_slot}
+use Rattle.aged_tracker.specs.steps.SlotLists.{IsStored, cold_of, has_place, link_of, map_slots, slot_at, unlinked, unused}
+use Rattle.aged_tracker.specs.steps.SlotLists.{whole, whole_slot}
 use Rattle.aged_tracker.specs.steps.Table.{Placed, SameSize, numbered_entry, owner_by}
 
 module _ {A B : Type 0} where
@@ -27,7 +28,8 @@ module _ {A B : Type 0} where
       let shift : first + 1 + k ≡ first + suc k = omega arith in
       get-map_slots f (first + 1) rest k ∙ ap (λ n. option_map (f n) (get_or rest k None)) shift
 
-  pub count-map_slots : (f : ℕ → A → B) (first : ℕ) (slots : List (Option A)) → count_by is_some (map_slots f first slots) ≡ count_by is_some slots
+  pub count-map_slots : (f : ℕ → A → B) (first : ℕ) (slots : List (Option A))
+      → count_by is_some (map_slots f first slots) ≡ count_by is_some slots
   count-map_slots f first [] = refl
   count-map_slots f first (None ∷ rest) =
       omega (
@@ -48,21 +50,24 @@ module _ {A B : Type 0} where
       → entries_from first (map_slots f first slots) ≡ map (λ (p : ℕ × A). (p.0, f p.0 p.1)) (entries_from first slots)
   entries-map_slots f first [] = refl
   entries-map_slots f first (None ∷ rest) = entries-map_slots f (first + 1) rest
-  entries-map_slots f first (Some x ∷ rest) = ap (λ more. (first, f first x) ∷ more) (entries-map_slots f (first + 1) rest)
+  entries-map_slots f first (Some x ∷ rest) =
+      ap (λ more. (first, f first x) ∷ more) (entries-map_slots f (first + 1) rest)
 
 -- the number of an entry, and the entry as it is listed
 abbrev pub numbered_stored : List ColdSlot → ℕ × HotSlot → ℕ × Connection
 numbered_stored cold entry = numbered_entry (entry.0, whole_slot unlinked (cold_of cold entry.0) entry.1)
 
 numbered_alike : (links : List Link) (cold : List ColdSlot) (xs : List (ℕ × HotSlot))
-    → map numbered_entry (map (λ (p : ℕ × HotSlot). (p.0, slot_at links cold p.0 p.1)) xs) ≡ map (numbered_stored cold) xs
+    → map numbered_entry (map (λ (p : ℕ × HotSlot). (p.0, slot_at links cold p.0 p.1)) xs)
+    ≡ map (numbered_stored cold) xs
 numbered_alike links cold [] = refl
 numbered_alike links cold (x ∷ xs) = ap (λ more. numbered_stored cold x ∷ more) (numbered_alike links cold xs)
 
 module _ (hot : Slab HotSlot) (links : List Link) (cold : List ColdSlot) where
   get_whole : (key : ℕ) → get (whole hot links cold) key ≡ option_map (slot_at links cold key) (get hot key)
   get_whole key =
-      get-map_slots (slot_at links cold) 0 hot.slots key ∙ ap (λ n. option_map (slot_at links cold n) (get hot key)) (zero-add key)
+      get-map_slots (slot_at links cold) 0 hot.slots key
+      ∙ ap (λ n. option_map (slot_at links cold n) (get hot key)) (zero-add key)
 
   len_whole : slab_len (whole hot links cold) ≡ slab_len hot
   len_whole = count-map_slots (slot_at links cold) 0 hot.slots
@@ -78,7 +83,8 @@ module _ (hot : Slab HotSlot) (links : List Link) (cold : List ColdSlot) (slots 
   pub get_view : (key : ℕ) → get slots key ≡ option_map (slot_at links cold key) (get hot key)
   get_view key = ap (λ s. get s key) (sym view_is) ∙ get_whole hot links cold key
 
-  pub get_used : (key : ℕ) (slot : HotSlot) → get hot key ≡ Some slot → get slots key ≡ Some (slot_at links cold key slot)
+  pub get_used : (key : ℕ) (slot : HotSlot) → get hot key ≡ Some slot
+      → get slots key ≡ Some (slot_at links cold key slot)
   get_used key slot is = get_view key ∙ ap (option_map (slot_at links cold key)) is
 
   pub len_view : slab_len slots ≡ slab_len hot
@@ -92,22 +98,30 @@ module _ (hot : Slab HotSlot) (links : List Link) (cold : List ColdSlot) (slots 
   pub room_stored : IsTrue (nat_lt (slab_len slots) slots.capacity)
       → HasRoomFor hot 1 × ((hot.vacant_key < length links) × (hot.vacant_key < length cold))
   room_stored room =
-      let seen : IsTrue (nat_lt (slab_len (whole hot links cold)) (whole hot links cold).capacity) = rw (← view_is) at room in
+      let seen : IsTrue (nat_lt (slab_len (whole hot links cold)) (whole hot links cold).capacity)
+      = rw (← view_is) at room in
       grind (arith, nat_tests, seen, len_whole hot links cold, cases_Bool (has_place links cold hot.vacant_key))
 
   -- the numbers of entries, and the entries as they are listed
   pub numbered_view : map numbered_entry (entries slots) ≡ map (numbered_stored cold) (entries hot)
   numbered_view =
       ap (λ s. map numbered_entry (entries s)) (sym view_is)
-      ∙ ap (map numbered_entry) (entries-map_slots (slot_at links cold) 0 hot.slots) ∙ numbered_alike links cold (entries hot)
+      ∙ ap (map numbered_entry) (entries-map_slots (slot_at links cold) 0 hot.slots)
+      ∙ numbered_alike links cold (entries hot)
 
 len-with_value : (s : Slab HotSlot) (key : ℕ) (value : HotSlot) → ContainsKey s key
     → slab_len (with_value s key value) ≡ slab_len s
 len-with_value s key value is =
     let one : ◌≡◌ {A = ℕ} (cond (is_some (get s key)) 1 0) 1 = ap (λ b. cond b 1 0) is in
-    omega (arith, one, sum_by-set (λ o. cond (is_some o) 1 0) s.slots key (Some value) None (ContainsKey-within s key is))
+    omega (
+      arith,
+      one,
+      sum_by-set (λ o. cond (is_some o) 1 0) s.slots key (Some value) None
+          (ContainsKey-within s key is),
+    )
 
-module _ (s : Slab HotSlot) (links links' : List Link) (cold : List ColdSlot) (long : length links' ≡ length links) where
+module _ (s : Slab HotSlot) (links links' : List Link) (cold : List ColdSlot)
+    (long : length links' ≡ length links) where
   pub size_linked : SameSize (whole s links cold) (whole s links' cold)
   size_linked = (
     len_whole s links' cold ∙ sym (len_whole s links cold),
@@ -126,14 +140,15 @@ module _ (s : Slab HotSlot) (links links' : List Link) (cold : List ColdSlot) (l
       )
 
 -- a write of one slot's parts
-module _ (old new : Slab HotSlot) (links links' : List Link) (cold cold' : List ColdSlot) (key : ℕ) (slot : Option HotSlot)
-    (updates : Updates old new key slot) where
+module _ (old new : Slab HotSlot) (links links' : List Link) (cold cold' : List ColdSlot) (key : ℕ)
+    (slot : Option HotSlot) (updates : Updates old new key slot) where
   pub updates_whole : ((other : ℕ) → other ≢ key → link_of links' other ≡ link_of links other)
       → ((other : ℕ) → other ≢ key → cold_of cold' other ≡ cold_of cold other)
       → Updates (whole old links cold) (whole new links' cold') key (option_map (slot_at links' cold' key) slot)
   updates_whole link_apart cold_apart = record {
     changed = get_whole new links' cold' key ∙ ap (option_map (slot_at links' cold' key)) updates.changed;
-    others = λ other d. get_whole new links' cold' other ∙ ap (option_map (slot_at links' cold' other)) (updates.others other d)
+    others = λ other d. get_whole new links' cold' other
+        ∙ ap (option_map (slot_at links' cold' other)) (updates.others other d)
         ∙ ap (λ link. option_map (whole_slot link (cold_of cold' other)) (get old other)) (link_apart other d)
         ∙ ap (λ c. option_map (whole_slot (link_of links other) c) (get old other)) (cold_apart other d)
         ∙ sym (get_whole old links cold other);
@@ -158,12 +173,14 @@ module _ (old new : Slab HotSlot) (links : List Link) (cold : List ColdSlot) (sl
     kept_links : (other : ℕ) → other ≢ key → link_of (set links key link) other ≡ link_of links other
     kept_links other d = get_or-set_other links key other link unlinked d
 
-    pub written_link : Updates slots (whole new (set links key link) cold) key (Some (whole_slot link (cold_of cold key) hot))
+    pub written_link : Updates slots (whole new (set links key link) cold) key
+        (Some (whole_slot link (cold_of cold key) hot))
     written_link = rw (← view_is)
         (subst (λ l. Updates (whole old links cold) (whole new (set links key link) cold) key
         (Some (whole_slot l (cold_of cold key) hot)))
         (get_or-set_same links key link unlinked linked)
-        (updates_whole old new links (set links key link) cold cold key (Some hot) updates kept_links (λ other d. refl)))
+        (updates_whole old new links (set links key link) cold cold key (Some hot) updates kept_links
+        (λ other d. refl)))
 
     pub written_whole : (origin : ColdSlot) → key < length cold
         → Updates slots (whole new (set links key link) (set cold key origin)) key (Some (whole_slot link origin hot))

@@ -356,7 +356,8 @@ impl HotSlot {
     /// The direction of a packet with this tuple, if that is an incoming tuple of the entry.
     #[inline(always)]
     pub fn direction_of(&self, tuple: Tuple) -> Option<Direction>
-        ensures { (link : Linked) (cold : Cold) → result ≡ direction_in tuple (held_of 0 (whole_slot link cold self.now)) }
+        ensures { (link : Linked) (cold : Cold)
+            → result ≡ direction_in tuple (held_of 0 (whole_slot link cold self.now)) }
     {
         if self.original.is(tuple) {
             Some(Direction::Original)

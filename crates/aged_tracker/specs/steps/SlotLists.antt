@@ -24,7 +24,7 @@ inverse_packed t = record { kind = inverse_kind t.kind; first = t.second; second
 abbrev pub reply_of : HotSlot → PackedTuple
 reply_of hot = cond hot.is_translated hot.reply (inverse_packed hot.original)
 
--- what is stored for an unused key
+-- what is stored for an unused key: both neighbours are the first head
 abbrev pub unlinked : Link
 unlinked = record { prev = record { 0 = 0 }; next = record { 0 = 0 } }
 

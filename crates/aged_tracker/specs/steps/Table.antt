@@ -9,6 +9,7 @@ use Rattle.aged_tracker.specs.declared.slot.Neighbour.TheVariants.{Next, Previou
 use Rattle.aged_tracker.specs.declared.slot.NodeIndex.{NodeIndex}
 use Rattle.aged_tracker.specs.declared.slot.Slot.{Slot}
 use Rattle.aged_tracker.specs.declared.tuple_index.TupleIndex.{TupleIndex}
+use Rattle.aged_tracker.specs.steps.SlotLists.{unlinked}
 use Rattle.box_file.specs.declared.idle_line.IdleKind.{IdleKind}
 use Rattle.box_file.specs.declared.limits.Limits.{Limits}
 use Rattle.conntrack.specs.ConntrackEntry.{belonging_by, connection_of, is_incoming, is_live}
@@ -104,9 +105,6 @@ MAX_KEYS = 4294967291
 abbrev pub number : NodeIndex → ℕ
 number at = at.0
 
-abbrev pub no_link : Link
-no_link = record { prev = record { 0 = 0 }; next = record { 0 = 0 } }
-
 -- a neighbour by these links
 abbrev pub neighbour : Neighbour → Link → ℕ
 neighbour Previous link = number link.prev
@@ -118,13 +116,13 @@ with_neighbour Previous to link = record link { prev = to }
 with_neighbour Next to link = record link { next = to }
 
 abbrev pub link_by : Option Slot → Link
-link_by None = no_link
+link_by None = unlinked
 link_by (Some slot) = slot.links.link
 
 -- the links of a node
 abbrev pub link_at : Slab Slot → List Link → ℕ → Link
 link_at slots heads node =
-    if nat_lt node 5 then slice_index_or heads node no_link else link_by (get slots (node - 5))
+    if nat_lt node 5 then slice_index_or heads node unlinked else link_by (get slots (node - 5))
 
 abbrev pub next_of : Slab Slot → List Link → ℕ → ℕ
 next_of slots heads node = neighbour Next (link_at slots heads node)
@@ -155,7 +153,7 @@ SameBy keep old new = (key : ℕ) → option_map keep (get new key) ≡ option_m
 
 -- a slot without its links
 abbrev pub except_links : Slot → Slot
-except_links slot = record slot { links = record { list = None; link = no_link } }
+except_links slot = record slot { links = record { list = None; link = unlinked } }
 
 -- what a write of links writes and keeps
 pub record Placed (old new : Slab Slot) (key : ℕ) (links : ListLinks) : Type 0 where

@@ -25,15 +25,17 @@ invariant_of-self c =
     let key = c.insert_reserved-key.result in
     let links = length-set c.self.inside.links.items key c.parts.result.2 in
     let cold = length-set c.self.inside.cold.items key c.parts.result.1 in
-    stored_after _ _ _ _ _ _ _ _ c.insert_reserved-key.ensures.updates c.self.invariant (omega (arith, links)) (omega (arith, cold))
+    stored_after _ _ _ _ _ _ _ _ c.insert_reserved-key.ensures.updates c.self.invariant (omega (arith, links))
+    (omega (arith, cold))
     (λ is. (omega (arith, links, within.0), omega (arith, cold, within.1)))
 
 pub returns-clause-free : goal.returns-clause-free
 returns-clause-free c =
-    grind (arith, get_view _ _ _ _ c.self.view_is c.insert_reserved-key.result, c.insert_reserved-key.ensures.was_vacant)
+    let get = get_view _ _ _ _ c.self.view_is c.insert_reserved-key.result in
+    grind (arith, get, c.insert_reserved-key.ensures.was_vacant)
 
 pub returns-clause-updates : goal.returns-clause-updates
 returns-clause-updates c =
     let within = places (goal.at.returns-clause-updates c).After-insert_reserved-key in
-    rw c.parts.ensures at (written_whole _ _ _ _ _ c.self.view_is _ _ c.insert_reserved-key.ensures.updates c.parts.result.2
-    within.0 c.parts.result.1 within.1)
+    rw c.parts.ensures at (written_whole _ _ _ _ _ c.self.view_is _ _ c.insert_reserved-key.ensures.updates
+    c.parts.result.2 within.0 c.parts.result.1 within.1)

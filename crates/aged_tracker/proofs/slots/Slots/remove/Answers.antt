@@ -17,8 +17,10 @@ returns-clause-value c =
     let at = (goal.at.returns-clause-value c).After-remove-hot in
     let links = c.self.inside.links.items in
     let origins = c.self.inside.cold.items in
-    let link = c.index.ensures ∙ get_or_default links c.args.key _ unlinked (c.self.invariant.linked c.args.key (used at)) in
-    let cold = c.index-2.ensures ∙ get_or_default origins c.args.key _ unused (c.self.invariant.begun c.args.key (used at)) in
+    let linked = c.self.invariant.linked c.args.key (used at) in
+    let begun = c.self.invariant.begun c.args.key (used at) in
+    let link = c.index.ensures ∙ get_or_default links c.args.key _ unlinked linked in
+    let cold = c.index-2.ensures ∙ get_or_default origins c.args.key _ unused begun in
     get_used _ _ _ _ c.self.view_is c.args.key _ c.remove-hot.ensures.value
     ∙ ap (λ l. Some (whole_slot l (cold_of origins c.args.key) c.remove-hot.result)) (sym link)
     ∙ ap (λ o. Some (whole_slot c.index.result.now o c.remove-hot.result)) (sym cold) ∙ ap Some (sym c.whole.ensures)

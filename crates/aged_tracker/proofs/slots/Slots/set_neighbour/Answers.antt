@@ -22,7 +22,8 @@ returns-clause-slots c =
     let hot = some_of (get slab c.args.key) used in
     let read = c.index_mut.ensures.value ∙ get_or_default links c.args.key _ unlinked linked in
     let link = c.set.ensures ∙ ap (with_neighbour c.args.neighbour c.args.to) read in
-    rw (get_used _ _ _ _ c.self.view_is c.args.key hot.0 hot.1, ← link) (written_link slab slab links cold _ c.self.view_is
+    rw (get_used _ _ _ _ c.self.view_is c.args.key hot.0 hot.1, ← link)
+    (written_link slab slab links cold _ c.self.view_is
     c.args.key hot.0 (record { changed = hot.1; others = λ other d. refl }) c.set.new.self linked)
 
 pub returns-clause-size : goal.returns-clause-size

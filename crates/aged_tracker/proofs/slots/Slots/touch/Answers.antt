@@ -39,7 +39,8 @@ returns-clause-follower c =
     let at = (goal.at.returns-clause-follower c).After-index_mut-slot in
     let linked = c.self.invariant.linked c.args.key (used at) in
     rw (here at)
-    (ap (λ (l : Link). l.next) (c.index.ensures ∙ get_or_default c.self.inside.links.items c.args.key _ unlinked linked))
+    (ap (λ (l : Link). l.next) (c.index.ensures
+    ∙ get_or_default c.self.inside.links.items c.args.key _ unlinked linked))
 
 pub returns-clause-size : goal.returns-clause-size
 returns-clause-size c =
