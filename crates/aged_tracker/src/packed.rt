@@ -121,6 +121,17 @@ impl PackedTuple {
         self.first.is(tuple.source) && self.second.is(tuple.destination) && self.kind == tuple.kind
     }
 
+    /// Whether it is the tuple of packets in the other direction than this one's. Of most that aren't no
+    /// kind is looked at.
+    #[inline(always)]
+    pub fn is_inverse_of(self, tuple: Tuple) -> bool
+        ensures { result ≡ same_tuple (tuple_of (inverse_packed self)) tuple }
+    {
+        self.second.is(tuple.source)
+            && self.first.is(tuple.destination)
+            && self.kind.inverse() == tuple.kind
+    }
+
     /// Packs a mapping, if there is one.
     pub fn of_mapping(mapping: Option<Mapping>) -> Option<Self>
         ensures { option_map mapping_of result ≡ mapping }

@@ -360,8 +360,14 @@ impl HotSlot {
             → result ≡ direction_in tuple (held_of 0 (whole_slot link cold self.now)) }
     {
         if self.original.is(tuple) {
-            Some(Direction::Original)
-        } else if self.reply().is(tuple) {
+            return Some(Direction::Original);
+        }
+        let is_reply = if self.is_translated {
+            self.reply.is(tuple)
+        } else {
+            self.original.is_inverse_of(tuple)
+        };
+        if is_reply {
             Some(Direction::Reply)
         } else {
             None

@@ -38,8 +38,7 @@ impl Model for Slots {
     ghost invariant = { λ s. IsStored s.slab s.links.items s.cold.items };
 }
 
-/// Lengthens a list by fillers until it has a place for a key, to twice its length at least, so that
-/// few calls do.
+/// Lengthens a list by fillers until it has a place for a key.
 ///
 /// # Errors
 ///
@@ -51,14 +50,10 @@ fn make_place<T: Copy>(list: &mut Vec<T>, key: usize, filler: T) -> Result<(), M
     ensures place { OnOk result (key < length list.new.items) }
     ensures spared { key < length list.old.items → (list.new ≡ list.old) × IsOk result }
 {
-    if key < list.len() {
-        return Ok(());
+    while list.len() <= key {
+        list.push(filler)?;
     }
-    let Some(needed) = key.checked_add(1) else {
-        return Err(Memory);
-    };
-    let twice = list.len().saturating_mul(2);
-    list.resize(needed.max(twice), filler)
+    Ok(())
 }
 
 /// What is stored for a key in the list of what packets don't use.
