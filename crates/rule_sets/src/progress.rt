@@ -1,12 +1,12 @@
 //! Packets on their way through a rule.
-ghost use Rattle.std.specs.Prelude.{◌≡◌, ◌≤◌, ◌++◌, ◌∷◌, [], true, false, length, map, None, IfOk, IfErr, OnOk};
+ghost use Rattle.std.specs.Prelude.{◌≡◌, ◌≤◌, ◌+◌, ◌++◌, ◌∷◌, [], true, false, length, map, None, IfOk, IfErr, OnOk};
 ghost use Rattle.packet_sets.specs.Sets.{IsSet, Keeps};
 ghost use Rattle.packet_sets.specs.declared.fault.SetError.TheVariants.{TooLarge};
 ghost use Rattle.nft_tree.specs.TreeViews.{statement};
 ghost use Rattle.rule_types.specs.Types.{statement_mismatches};
 ghost use Rattle.rule_values.specs.Faults.{statement_out_of_range};
 ghost use Rattle.rule_meaning.specs.Statements.{statement_effect};
-ghost use Rattle.lowering.specs.Lowered.{Extends, HasDeclared, scope_of};
+ghost use Rattle.lowering.specs.Lowered.{Extends, HasDeclared, count_tables, scope_of};
 ghost use Rattle.action_cases.specs.Effects.{written_after};
 ghost use Rattle.fact_sets.specs.Cases.{AreCases};
 ghost use Rattle.rule_sets.specs.Ends.{end_at, end_behind};
@@ -142,6 +142,8 @@ impl Progress {
         requires sets { AreSets diagrams.old self }
         ensures keeps { Keeps diagrams.old diagrams.new }
         ensures extends { OnOk result (Extends lookups.old lookups.new) }
+        ensures few { OnOk result (count_tables lookups.new
+            ≤ count_tables lookups.old + length self.passing.items) }
         ensures value { IfOk result (λ next. Advances diagrams.old diagrams.new place.entry.reader
             (λ rest facts. end_behind place.entry.last rest facts (statement_effect
             (scope_of place.entry.setting.network.now place.entry.setting.names.now) place.entry.position

@@ -6,7 +6,7 @@ ghost use Rattle.nft_tree.specs.TreeViews.{statement};
 ghost use Rattle.rule_types.specs.Types.{statement_mismatches};
 ghost use Rattle.rule_values.specs.Faults.{statement_out_of_range};
 ghost use Rattle.rule_meaning.specs.Statements.{statement_effect};
-ghost use Rattle.lowering.specs.Lowered.{Extends, HasDeclared, scope_of};
+ghost use Rattle.lowering.specs.Lowered.{AddsFewTables, Extends, HasDeclared, scope_of};
 ghost use Rattle.action_cases.specs.Effects.{Decides};
 
 use action_cases::{Outcome, action_cases};
@@ -48,6 +48,7 @@ pub fn statement_cases(
     requires bounds { statement_out_of_range (statement stmt.now) ≡ false }
     ensures keeps { Keeps diagrams.old diagrams.new }
     ensures extends { OnOk result (Extends lookups.old lookups.new) }
+    ensures few { OnOk result (AddsFewTables lookups.old lookups.new) }
     ensures value { IfOk result (λ cases. Decides diagrams.new reader.entry cases.items
         (statement_effect (scope_of setting.entry.network.now setting.entry.names.now) position
         (statement stmt.now))) }

@@ -53,6 +53,7 @@ loop-state-preserved c =
           (sym c.deref.ensures.value) c.in_ok-cases.ensures.value) c.in_ok-parts.ensures.value c.in_ok-add_parts.ensures.passes;
       extends = extends_trans c.args.lookups.now c.loop-state.lookups c.statement_cases.new.lookups c.loop-state.invariant.extends
           c.in_ok-cases.ensures.extends;
+      few = omega (arith, c.loop-state.invariant.few, c.in_ok-cases.ensures.few);
     }
 
 pub returns-clause-value : goal.returns-clause-value
