@@ -1,0 +1,4 @@
+pub mod Buckets
+pub mod Nodes
+pub mod Chains
+pub mod Tables
