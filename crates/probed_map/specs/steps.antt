@@ -1,2 +1,0 @@
-pub mod Homes
-pub mod Cells
