@@ -1,6 +1,7 @@
 -- Slots, put together from the lists that they are stored in.
-use Rattle.std.proofs.Common.{IsSome, List, None, Option, Some, [], add-zero, ap, arith, cond, get_or, is_some, length, map}
-use Rattle.std.proofs.Common.{refl, set, subst, suc, sym, zero, ℕ, ◌&&◌, ◌+◌, ◌<◌, ◌∙◌, ◌∷◌, ◌≡◌, ◌≢◌, ◌≤◌, ◌-◌, zero-add}
+use Rattle.std.proofs.Common.{IsSome, List, None, Option, Some, [], add-zero, ap, arith, cond, get_or, is_some, length}
+use Rattle.std.proofs.Common.{map, refl, set, subst, suc, sym, zero, zero-add}
+use Rattle.std.proofs.Common.{ℕ, ◌&&◌, ◌+◌, ◌<◌, ◌∙◌, ◌∷◌, ◌≡◌, ◌≢◌, ◌≤◌, ◌-◌}
 use Rattle.std.specs.Prelude.{IsTrue, count_by, nat_lt, option_map}
 use Rattle.std.proofs.lemmas.List.{get_or-set_other, get_or-set_same}
 use Rattle.std.proofs.lemmas.List.Sums.{sum_by-cons, sum_by-set}
@@ -15,8 +16,8 @@ use Rattle.aged_tracker.specs.declared.slot.HotSlot.{HotSlot}
 use Rattle.aged_tracker.specs.declared.slot.Link.{Link}
 use Rattle.aged_tracker.specs.declared.slot.ListLinks.{ListLinks}
 use Rattle.aged_tracker.specs.declared.slot.Slot.{Slot}
-use Rattle.aged_tracker.specs.steps.SlotLists.{IsStored, cold_of, has_place, link_of, map_slots, slot_at, unlinked, unused}
-use Rattle.aged_tracker.specs.steps.SlotLists.{whole, whole_slot}
+use Rattle.aged_tracker.specs.steps.SlotLists.{IsStored, cold_of, has_place, link_of, map_slots, slot_at, unlinked}
+use Rattle.aged_tracker.specs.steps.SlotLists.{unused, whole, whole_slot}
 use Rattle.aged_tracker.specs.steps.Table.{Placed, SameSize, numbered_entry, owner_by}
 
 module _ {A B : Type 0} where

@@ -3,7 +3,8 @@ use Rattle.std.proofs.lemmas.Grind.{common_steps}
 use Rattle.aged_tracker.proofs.slots.make_place.Goals as goal
 
 -- one more filler is what is read past the end anyway
-filled : {X : Type 0} (xs : List X) (filler : X) (other : ℕ) → get_or (xs ++ filler ∷ []) other filler ≡ get_or xs other filler
+filled : {X : Type 0} (xs : List X) (filler : X) (other : ℕ)
+    → get_or (xs ++ filler ∷ []) other filler ≡ get_or xs other filler
 filled [] filler zero = refl
 filled [] filler (suc other) = refl
 filled (x ∷ xs) filler zero = refl
