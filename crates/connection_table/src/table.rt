@@ -195,8 +195,7 @@ impl<T: Tracker> ConnectionTable<T> {
         ensures steps { IsWithin (option_map (λ most. most.touch) T.max_slots)
             steps.old steps.new }
     {
-        self.tracker
-            .touch(id, direction, flags, mark, now, steps);
+        self.tracker.touch(id, direction, flags, mark, now, steps);
     }
 
     /// Creates the entry of a new connection with its first packet, which had these flags and sets

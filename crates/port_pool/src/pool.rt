@@ -143,14 +143,10 @@ impl Pool {
     {
         let Pool { numbers } = self;
         let numbers = match (numbers, order) {
-            (
-                TakenNumbers::Ports(bitmap) | TakenNumbers::Identifiers(bitmap),
-                Order::Ports,
-            ) => TakenNumbers::Ports(bitmap),
-            (
-                TakenNumbers::Ports(bitmap) | TakenNumbers::Identifiers(bitmap),
-                Order::Identifiers,
-            ) => TakenNumbers::Identifiers(bitmap),
+            (TakenNumbers::Ports(bitmap) | TakenNumbers::Identifiers(bitmap), Order::Ports) =>
+                TakenNumbers::Ports(bitmap),
+            (TakenNumbers::Ports(bitmap) | TakenNumbers::Identifiers(bitmap), Order::Identifiers) =>
+                TakenNumbers::Identifiers(bitmap),
             // The number 0 alone has no bitmap.
             (numbers, _) => numbers,
         };
