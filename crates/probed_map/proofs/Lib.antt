@@ -1,0 +1,9 @@
+pub mod StepLaws
+pub mod CellLaws
+pub mod EntryLaws
+pub mod SearchLaws
+pub mod GapLaws
+pub mod TableLaws
+pub mod RemovalLaws
+pub mod GrowthLaws
+pub mod MapLaws
