@@ -6,7 +6,7 @@ ghost use Rattle.conntrack.specs.StepCounts.{Counts};
 ghost use Rattle.ip_headers.specs.Same.{same_tuple};
 ghost use Rattle.ip_headers.specs.declared.tuple.Tuple.{Tuple as Tupled};
 
-use chained_map::ChainedMap;
+use probed_map::ProbedMap;
 use conntrack::{Memory, Steps};
 use ip_headers::Tuple;
 use std::alloc::Global;
@@ -16,7 +16,7 @@ use word_hash::WordState;
 #[derive(Drop)]
 pub struct TupleIndex {
     // Keys are 32 bits wide, as each entry has two here.
-    slots: ChainedMap<Tuple, u32>,
+    slots: ProbedMap<Tuple, u32>,
 }
 
 impl TupleIndex {
@@ -25,7 +25,7 @@ impl TupleIndex {
         ensures { (q : Tupled) → slot_in result q ≡ None }
     {
         TupleIndex {
-            slots: ChainedMap::with_hasher(alloc, keys),
+            slots: ProbedMap::with_hasher(alloc, keys),
         }
     }
 

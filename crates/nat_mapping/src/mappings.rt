@@ -17,7 +17,7 @@ use crate::keys::{
 };
 use crate::pools::Pools;
 use crate::tables::{add_holder, find_inbound, insert_inbound, remove_holder};
-use chained_map::ChainedMap;
+use probed_map::ProbedMap;
 use ip_headers::{Endpoint, Kind, Mapping};
 use port_pool::CandidateRange;
 use std::alloc::{AllocError as Memory, Global};
@@ -37,8 +37,8 @@ pub enum MapError {
 /// The mappings of a NAT. Connections hold them: a mapping is live while it has a holder.
 #[derive(Drop)]
 pub struct Mappings {
-    sources: ChainedMap<SourceKey, MappedPort>,
-    inbounds: ChainedMap<InboundKey, Endpoint>,
+    sources: ProbedMap<SourceKey, MappedPort>,
+    inbounds: ProbedMap<InboundKey, Endpoint>,
     pools: Pools,
 }
 
@@ -86,8 +86,8 @@ impl Mappings {
         ensures pools { result.pools ≡ 0 }
     {
         Self {
-            sources: ChainedMap::with_hasher(alloc, keys),
-            inbounds: ChainedMap::with_hasher(alloc, keys),
+            sources: ProbedMap::with_hasher(alloc, keys),
+            inbounds: ProbedMap::with_hasher(alloc, keys),
             pools: Pools::new(alloc, keys),
         }
     }
@@ -244,7 +244,7 @@ impl Mappings {
 /// The first candidate for an internal endpoint that isn't mapped at the external address.
 #[tactic(auto, using(crate::proofs::WhichKinds::zero_found))]
 fn first_free_port(
-    inbounds: &ChainedMap<InboundKey, Endpoint>,
+    inbounds: &ProbedMap<InboundKey, Endpoint>,
     pools: &Pools,
     key: SourceKey,
     range: Option<CandidateRange>,

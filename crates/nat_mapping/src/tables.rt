@@ -6,13 +6,13 @@ ghost use Rattle.nat_mapping.specs.steps.Keys.{one_fewer, one_more};
 ghost use Rattle.nat_mapping.specs.steps.KeyTests.{same_inbound};
 
 use crate::keys::{InboundKey, MappedPort};
-use chained_map::ChainedMap;
+use probed_map::ProbedMap;
 use ip_headers::Endpoint;
 use std::hash::Hash;
 
 /// The internal endpoint behind an external one.
 pub(crate) fn find_inbound(
-    inbounds: &ChainedMap<InboundKey, Endpoint>,
+    inbounds: &ProbedMap<InboundKey, Endpoint>,
     key: InboundKey,
 ) -> Option<Endpoint>
     ensures { result ≡ get same_inbound inbounds.now key }
@@ -26,7 +26,7 @@ pub(crate) fn find_inbound(
 
 /// Adds a holder under a key, with this port if it is the first. What was there before.
 pub(crate) fn add_holder<K: Copy + Eq + Hash>(
-    sources: &mut ChainedMap<K, MappedPort>,
+    sources: &mut ProbedMap<K, MappedPort>,
     key: K,
     port: u16,
 ) -> Option<MappedPort>
@@ -53,7 +53,7 @@ pub(crate) fn add_holder<K: Copy + Eq + Hash>(
 
 /// Removes a holder under a key, and the key with the last one. What was there before.
 pub(crate) fn remove_holder<K: Copy + Eq + Hash>(
-    sources: &mut ChainedMap<K, MappedPort>,
+    sources: &mut ProbedMap<K, MappedPort>,
     key: K,
 ) -> MappedPort
     requires { IsSome (get K.eq sources.old key) }
@@ -80,7 +80,7 @@ pub(crate) fn remove_holder<K: Copy + Eq + Hash>(
 
 /// Maps an external endpoint to an internal one.
 pub(crate) fn insert_inbound(
-    inbounds: &mut ChainedMap<InboundKey, Endpoint>,
+    inbounds: &mut ProbedMap<InboundKey, Endpoint>,
     key: InboundKey,
     internal: Endpoint,
 )

@@ -32,3 +32,12 @@ returns-in_err-reserve-2-clause-held c = rw (← c.self.view_is) (held (goal.at.
 
 pub returns-clause-held : goal.returns-clause-held
 returns-clause-held c = rw (← c.self.view_is) (held (goal.at.returns-clause-held c).After-reserve)
+
+pub invariant_of-self : goal.invariant_of-self
+invariant_of-self c =
+    let p = (goal.at.invariant_of-self c).After-reserve in
+    grown _ _ _ c.self.invariant _ _ _ (table p) c.self.invariant.pooled (ports p) (λ q. refl) (λ q p. refl)
+
+pub returns-in_err-reserve-clause-held : goal.returns-in_err-reserve-clause-held
+returns-in_err-reserve-clause-held c =
+    rw (← c.self.view_is) (held (goal.at.returns-in_err-reserve-clause-held c).After-reserve)

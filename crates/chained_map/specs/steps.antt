@@ -1,4 +1,0 @@
-pub mod Buckets
-pub mod Nodes
-pub mod Chains
-pub mod Tables
