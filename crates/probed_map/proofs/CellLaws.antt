@@ -35,7 +35,8 @@ module _ {K V : Type 0} (eq : K → K → Bool) where
     pub absent : cell i ≡ None → (j : ℕ) (e : Entry K V) → cell j ≡ Some e → eq key e.key ≡ false
 
   module _ (laws : IsEquivalence eq) where
-    pub found_once : (cell : ℕ → Option (Entry K V)) (q : K) (o p : Option V) → IsApart cell → Found cell q o → Found cell q p → o ≡ p
+    pub found_once : (cell : ℕ → Option (Entry K V)) (q : K) (o p : Option V) → IsApart cell → Found cell q o
+          → Found cell q p → o ≡ p
     found_once cell q o p apart a b = elim a [
       | inl x ↦ elim b [
         | inl y ↦
@@ -52,14 +53,16 @@ module _ {K V : Type 0} (eq : K → K → Bool) where
     ]
 
     -- another key's cell is elsewhere
-    elsewhere : (cell : ℕ → Option (Entry K V)) (key q : K) (i j : ℕ) (e : Entry K V) → IsOwn cell key i → eq key q ≡ false
+    elsewhere : (cell : ℕ → Option (Entry K V)) (key q : K) (i j : ℕ) (e : Entry K V) → IsOwn cell key i
+          → eq key q ≡ false
         → cell j ≡ Some e → eq q e.key ≡ true → j ≢ i
     elsewhere cell key q i j e is other at hit same =
         let mine : eq key e.key ≡ true = is.own e (ap cell (sym same) ∙ at) in
         true≢false (sym (equal_by eq laws e.key key q (equal_back eq laws key e.key mine) (equal_back eq laws q e.key hit)) ∙ other)
 
     -- no other cell has the key
-    pub own_alone : (cell : ℕ → Option (Entry K V)) (key : K) (i j : ℕ) (e : Entry K V) → IsApart cell → IsOwn cell key i
+    pub own_alone : (cell : ℕ → Option (Entry K V)) (key : K) (i j : ℕ) (e : Entry K V) → IsApart cell
+          → IsOwn cell key i
         → cell j ≡ Some e → eq key e.key ≡ true → j ≡ i
     own_alone cell key i j e apart is at hit = elim (cases_option (cell i)) [
       | inl none ↦ absurd (true≢false (sym hit ∙ is.absent none j e at))
@@ -89,7 +92,8 @@ module _ {K V : Type 0} (eq : K → K → Bool) where
             )
           ])
 
-      pub found_emptied : IsApart cell → cell' i ≡ None → (q : K) (o : Option V) → Found cell q o → Found cell' q (cond (eq key q) None o)
+      pub found_emptied : IsApart cell → cell' i ≡ None → (q : K) (o : Option V) → Found cell q o
+            → Found cell' q (cond (eq key q) None o)
       found_emptied apart here q o found = by_answer (eq key q)
           (λ y. inr (
             (λ j e at. by_answer (eq q e.key)

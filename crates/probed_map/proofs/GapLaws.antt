@@ -6,10 +6,12 @@ use Rattle.probed_map.specs.declared.cells.Entry.{Entry}
 use Rattle.probed_map.specs.steps.Cells.{IsProbed}
 use Rattle.probed_map.specs.steps.Homes.{steps, IsNext}
 use Rattle.probed_map.proofs.CellLaws.{Found}
-use Rattle.probed_map.proofs.StepLaws.{next_within, steps_along, steps_apart, steps_below, steps_further, steps_next, steps_same, steps_through, steps_zero}
+use Rattle.probed_map.proofs.StepLaws.{next_within, steps_along, steps_apart, steps_below, steps_further, steps_next}
+use Rattle.probed_map.proofs.StepLaws.{steps_same, steps_through, steps_zero}
 
 -- The gap, and a place behind it up to which no entry may move into it. An empty cell is there or beyond.
-pub record IsWalk {K V : Type 0} (eq : K → K → Bool) (home : K → ℕ) (n first : ℕ) (cell : ℕ → Option (Entry K V)) (gap i : ℕ) : Type 0 where
+pub record IsWalk {K V : Type 0} (eq : K → K → Bool) (home : K → ℕ) (n first : ℕ) (cell : ℕ
+      → Option (Entry K V)) (gap i : ℕ) : Type 0 where
   pub first_in : first < n
   pub gap_in : gap < n
   pub within : i < n
@@ -24,7 +26,8 @@ clash : {X : Type 0} {o : Option X} {x : X} → o ≡ None → o ≡ Some x → 
 clash none some = let bad : None ≡ Some _ = sym none ∙ some in absurd cc
 
 module _ {K V : Type 0} (eq : K → K → Bool) (home : K → ℕ) (n : ℕ) (home_in : (k : K) → home k < n) where
-  pub walk_begins : (cell : ℕ → Option (Entry K V)) (gap i : ℕ) → gap < n → cell gap ≡ None → IsProbed eq home n cell gap
+  pub walk_begins : (cell : ℕ → Option (Entry K V)) (gap i : ℕ) → gap < n → cell gap ≡ None
+        → IsProbed eq home n cell gap
       → (z : ℕ) → z < n → z ≢ gap → cell z ≡ None → IsNext n gap i → IsWalk eq home n gap cell gap i
   walk_begins cell gap i gap_in empty probed z z_in apart none next =
       let one : steps n gap i ≡ 1 = steps_next n gap i gap_in (omega arith) next in
@@ -117,8 +120,10 @@ module _ {K V : Type 0} (eq : K → K → Bool) (home : K → ℕ) (n : ℕ) (ho
 
       -- another moves into it, and leaves one
       module _ (cell' : ℕ → Option (Entry K V)) (before : steps n (home e.key) gap < steps n (home e.key) i)
-          (moved : cell' gap ≡ Some e) (left : cell' i ≡ None) (there : (j : ℕ) → j ≢ gap → j ≢ i → cell' j ≡ cell j) where
-        old : (j : ℕ) (f : Entry K V) → cell' j ≡ Some f → ((j ≡ gap) × (f ≡ e)) ⊎ ((j ≢ gap) × (j ≢ i) × (cell j ≡ Some f))
+          (moved : cell' gap ≡ Some e) (left : cell' i ≡ None) (there : (j : ℕ) → j ≢ gap → j ≢ i
+                → cell' j ≡ cell j) where
+        old : (j : ℕ) (f : Entry K V) → cell' j ≡ Some f
+              → ((j ≡ gap) × (f ≡ e)) ⊎ ((j ≢ gap) × (j ≢ i) × (cell j ≡ Some f))
         old j f held = elim (cases_eq j gap) [
           | inl same ↦
               let alike : Some f ≡ Some e = sym held ∙ ap cell' same ∙ moved in

@@ -1,5 +1,6 @@
 -- Cells that get the entries of others, one after another.
-use Rattle.std.proofs.Common.{◌≡◌, ℕ, zero, suc, ◌+◌, ◌<◌, ◌≤◌, ◌^◌, Bool, cond, List, [], ◌∷◌, ◌++◌, length, take, inl, inr, refl, sym, ap, subst, ◌∙◌, arith}
+use Rattle.std.proofs.Common.{◌≡◌, ℕ, zero, suc, ◌+◌, ◌<◌, ◌≤◌, ◌^◌, Bool, cond, List, [], ◌∷◌, ◌++◌, length, take, inl}
+use Rattle.std.proofs.Common.{inr, refl, sym, ap, subst, ◌∙◌, arith}
 use Rattle.std.proofs.lemmas.List.{length_push}
 use Rattle.std.specs.Prelude.{Option, Some, None, replicate}
 use Rattle.std.specs.Cmp.{IsEquivalence}
@@ -41,7 +42,8 @@ module _ {K V : Type 0} where
   entries_add (None ∷ cells) (suc k) e at = entries_add cells k e at
   entries_add (Some f ∷ cells) (suc k) e at = ap (λ es. (f.key, f.value) ∷ es) (entries_add cells k e at)
 
-  pub entries_part : (cells : List (Option (Entry K V))) (k : ℕ) → length (entries_of (take k cells)) ≤ length (entries_of cells)
+  pub entries_part : (cells : List (Option (Entry K V))) (k : ℕ)
+        → length (entries_of (take k cells)) ≤ length (entries_of cells)
   entries_part [] zero = omega arith
   entries_part [] (suc k) = omega arith
   entries_part (None ∷ cells) zero = omega arith
@@ -106,7 +108,8 @@ module _ {K V : Type 0} where
 
         -- an entry is put
         pub adds : (cells' : List (Option (Entry K V))) (e : Entry K V) → cell_at old k ≡ Some e
-            → IsUpdated eq writes keys cells cells' e.key (Some e.value) → HasEntries eq writes keys (take (k + 1) old) cells'
+            → IsUpdated eq writes keys cells cells' e.key (Some e.value)
+                  → HasEntries eq writes keys (take (k + 1) old) cells'
         adds cells' e at updated =
             let before = entries_of (take k old) in
             let one : suc k ≡ k + 1 = omega arith in

@@ -1,5 +1,6 @@
 -- What is true of a map's parts, and stays true.
-use Rattle.std.proofs.Common.{◌≡◌, ℕ, ◌+◌, ◌-◌, ◌++◌, ◌≤◌, ◌^◌, Bool, true, false, not, cond, List, [], length, take, drop, refl, sym, ap, subst, ◌∙◌, arith}
+use Rattle.std.proofs.Common.{◌≡◌, ℕ, ◌+◌, ◌-◌, ◌++◌, ◌≤◌, ◌^◌, Bool, true, false, not, cond, List, [], length, take}
+use Rattle.std.proofs.Common.{drop, refl, sym, ap, subst, ◌∙◌, arith}
 use Rattle.std.specs.Prelude.{Option, Some, None, is_some}
 use Rattle.std.specs.Hash.{HashWrites}
 use Rattle.std.specs.HashMap.{HashMap, get, spare}
@@ -41,13 +42,15 @@ pub none_one : {X : Type 0} (o : Option X) → o ≡ None → one_if o ≡ 0
 none_one o e = ap (λ p. one_if p) e
 
 -- nothing has
-pub kept_map : {K V : Type 0} (eq : K → K → Bool) (writes : K → HashWrites) (keys : WordState) (cells final : List (Option (Entry K V)))
+pub kept_map : {K V : Type 0} (eq : K → K → Bool) (writes : K
+      → HashWrites) (keys : WordState) (cells final : List (Option (Entry K V)))
     (len len' : ℕ) → IsMap eq writes keys cells len → final ≡ cells → len' ≡ len → IsMap eq writes keys final len'
 kept_map eq writes keys cells final len len' map back same =
     subst (λ cs. IsMap eq writes keys cs len') (sym back) (subst (IsMap eq writes keys cells) (sym same) map)
 
 -- a key's value has changed
-module _ {K V : Type 0} (eq : K → K → Bool) (writes : K → HashWrites) (keys : WordState) (cells cells' final : List (Option (Entry K V)))
+module _ {K V : Type 0} (eq : K → K → Bool) (writes : K
+      → HashWrites) (keys : WordState) (cells cells' final : List (Option (Entry K V)))
     (len : ℕ) (key : K) (value : Option V) (m : HashMap K V WordState)
     (is : hash_map (entries_of cells) keys (room_of (length cells) - len) ≡ m)
     (map : IsMap eq writes keys cells len) (updated : IsUpdated eq writes keys cells cells' key value) (back : final ≡ cells') where
@@ -55,7 +58,8 @@ module _ {K V : Type 0} (eq : K → K → Bool) (writes : K → HashWrites) (key
   changed_values q =
       ap (λ cs. lookup (eq q) (entries_of cs)) back ∙ updated.values q ∙ ap (λ n. cond (eq key q) value (get eq n q)) is
 
-  pub changed_map : (len' : ℕ) → len' + one_if (lookup (eq key) (entries_of cells)) ≡ len + one_if value → IsMap eq writes keys final len'
+  pub changed_map : (len' : ℕ) → len' + one_if (lookup (eq key) (entries_of cells)) ≡ len + one_if value
+        → IsMap eq writes keys final len'
   changed_map len' counted = subst (λ cs. IsMap eq writes keys cs len') (sym back) (record {
     table = updated.table;
     counted = omega (arith, counted, updated.counted, map.counted);

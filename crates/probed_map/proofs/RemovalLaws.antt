@@ -1,5 +1,6 @@
 -- A gap among cells, as it moves and closes.
-use Rattle.std.proofs.Common.{◌≡◌, ◌≢◌, ℕ, ◌-◌, ◌<◌, ◌≤◌, ◌^◌, Bool, List, length, set, inl, inr, refl, sym, ap, subst, ◌∙◌, arith}
+use Rattle.std.proofs.Common.{◌≡◌, ◌≢◌, ℕ, ◌-◌, ◌<◌, ◌≤◌, ◌^◌, Bool, List, length, set, inl, inr, refl, sym, ap, subst}
+use Rattle.std.proofs.Common.{◌∙◌, arith}
 use Rattle.std.proofs.lemmas.List.{length-set}
 use Rattle.std.specs.Prelude.{Option, Some, None}
 use Rattle.std.specs.Cmp.{IsEquivalence}
@@ -8,7 +9,8 @@ use Rattle.std.specs.Map.{lookup}
 use Rattle.std.specs.Option.{option_map}
 use Rattle.word_hash.specs.declared.WordState.{WordState}
 use Rattle.probed_map.specs.declared.cells.Entry.{Entry}
-use Rattle.probed_map.specs.steps.Cells.{cell_at, entries_of, home_in, EndsAt, HasEntries, HasGap, IsProbed, IsProbedBut, IsPulled, IsTable, IsUpdated}
+use Rattle.probed_map.specs.steps.Cells.{cell_at, entries_of, home_in, EndsAt, HasEntries, HasGap, IsProbed}
+use Rattle.probed_map.specs.steps.Cells.{IsProbedBut, IsPulled, IsTable, IsUpdated}
 use Rattle.probed_map.specs.steps.Homes.{home_of, room_of, steps, IsNext}
 use Rattle.probed_map.proofs.CellLaws.{found_emptied, found_once, Found}
 use Rattle.probed_map.proofs.EntryLaws.{counts_set, looks, none_some, one_if, some_empty}
@@ -84,7 +86,8 @@ module _ {K V : Type 0} (eq : K → K → Bool) (writes : K → HashWrites) (key
 
   module _ (laws : IsEquivalence eq) where
     -- the gap is closed
-    pub closed : (first : ℕ) (before cells : List (Option (Entry K V))) (gap i : ℕ) → IsWalkOf first cells gap i → cell_at cells i ≡ None
+    pub closed : (first : ℕ) (before cells : List (Option (Entry K V))) (gap i : ℕ) → IsWalkOf first cells gap i
+          → cell_at cells i ≡ None
         → length cells ≡ length before → length (entries_of cells) ≡ length (entries_of before)
         → length (entries_of before) ≤ room_of (length before) → length before ≤ 2 ^ 32
         → ((q : K) → Found eq (cell_at cells) q (lookup (eq q) (entries_of before)))

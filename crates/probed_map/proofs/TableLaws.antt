@@ -1,5 +1,6 @@
 -- What is true of a table of cells, and stays true.
-use Rattle.std.proofs.Common.{◌≡◌, ◌≢◌, ℕ, ◌+◌, ◌*◌, ◌/◌, ◌%◌, ◌^◌, ◌<◌, ◌≤◌, Bool, true≢false, List, length, set, inl, inr, refl, sym, ap, subst, ◌∙◌, arith}
+use Rattle.std.proofs.Common.{◌≡◌, ◌≢◌, ℕ, ◌+◌, ◌*◌, ◌/◌, ◌%◌, ◌^◌, ◌<◌, ◌≤◌, Bool, true≢false, List, length, set, inl}
+use Rattle.std.proofs.Common.{inr, refl, sym, ap, subst, ◌∙◌, arith}
 use Rattle.std.proofs.Math.Nat.{mod-lt, div-lt_iff_lt-mul, mul_comm, mul-lt-mul_of_pos_right}
 use Rattle.std.proofs.lemmas.List.{length-set, get_or-set_same, get_or-set_other}
 use Rattle.word_hash.specs.WordHash.{after_write, finished, initial_state}
@@ -10,7 +11,8 @@ use Rattle.std.specs.Map.{lookup}
 use Rattle.std.specs.Option.{option_map}
 use Rattle.word_hash.specs.declared.WordState.{WordState}
 use Rattle.probed_map.specs.declared.cells.Entry.{Entry}
-use Rattle.probed_map.specs.steps.Cells.{cell_at, entries_of, home_in, EndsAt, IsProbed, IsProbedBut, IsTable, IsUpdated}
+use Rattle.probed_map.specs.steps.Cells.{cell_at, entries_of, home_in, EndsAt, IsProbed, IsProbedBut, IsTable}
+use Rattle.probed_map.specs.steps.Cells.{IsUpdated}
 use Rattle.probed_map.specs.steps.Homes.{home_of, room_of}
 use Rattle.probed_map.proofs.CellLaws.{apart_written, cases_option, found_once, found_written, IsApart, IsOwn}
 use Rattle.probed_map.proofs.EntryLaws.{counts_set, looks, one_if, some_within}
@@ -33,14 +35,17 @@ pub room_left : (n : ℕ) → 0 < n → room_of n < n
 room_left n some = omega arith
 
 module _ {K V : Type 0} where
-  pub cell_set : (cells : List (Option (Entry K V))) (i : ℕ) (c : Option (Entry K V)) → i < length cells → cell_at (set cells i c) i ≡ c
+  pub cell_set : (cells : List (Option (Entry K V))) (i : ℕ) (c : Option (Entry K V)) → i < length cells
+        → cell_at (set cells i c) i ≡ c
   cell_set cells i c lt = get_or-set_same cells i c None lt
 
-  pub cell_other : (cells : List (Option (Entry K V))) (i : ℕ) (c : Option (Entry K V)) (j : ℕ) → j ≢ i → cell_at (set cells i c) j ≡ cell_at cells j
+  pub cell_other : (cells : List (Option (Entry K V))) (i : ℕ) (c : Option (Entry K V)) (j : ℕ) → j ≢ i
+        → cell_at (set cells i c) j ≡ cell_at cells j
   cell_other cells i c j ne = get_or-set_other cells i j c None ne
 
   -- a cell with a value is there and filled
-  pub filled_there : (cells : List (Option (Entry K V))) (i : ℕ) → IsSome (option_map (λ (e : Entry K V). e.value) (cell_at cells i))
+  pub filled_there : (cells : List (Option (Entry K V))) (i : ℕ)
+        → IsSome (option_map (λ (e : Entry K V). e.value) (cell_at cells i))
       → (i < length cells) × (one_if (cell_at cells i) ≡ 1) × ((e : Entry K V) × (cell_at cells i ≡ Some e))
   filled_there cells i some = elim (cases_option (cell_at cells i)) [
     | inl none ↦ absurd (true≢false (sym some ∙ ap (λ o. is_some (option_map (λ (e : Entry K V). e.value) o)) none))
@@ -48,11 +53,13 @@ module _ {K V : Type 0} where
   ]
 
 module _ {K V : Type 0} (eq : K → K → Bool) (laws : IsEquivalence eq) (writes : K → HashWrites) (keys : WordState) where
-  pub owns : (cells : List (Option (Entry K V))) (key : K) (i : ℕ) → EndsAt eq writes keys cells key i → IsOwn eq (cell_at cells) key i
+  pub owns : (cells : List (Option (Entry K V))) (key : K) (i : ℕ) → EndsAt eq writes keys cells key i
+        → IsOwn eq (cell_at cells) key i
   owns cells key i ends = record { own = ends.own; absent = ends.absent }
 
   -- the value where a search ends is what a look-up finds
-  pub value_there : (cells : List (Option (Entry K V))) (key : K) (i : ℕ) → IsApart eq (cell_at cells) → EndsAt eq writes keys cells key i
+  pub value_there : (cells : List (Option (Entry K V))) (key : K) (i : ℕ) → IsApart eq (cell_at cells)
+        → EndsAt eq writes keys cells key i
       → option_map (λ e. e.value) (cell_at cells i) ≡ lookup (eq key) (entries_of cells)
   value_there cells key i apart ends = elim (cases_option (cell_at cells i)) [
     | inl none ↦ found_once eq laws (cell_at cells) key _ _ apart

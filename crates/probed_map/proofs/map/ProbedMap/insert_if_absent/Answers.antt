@@ -6,7 +6,8 @@ use Rattle.std.specs.Prelude.{Some, is_some}
 use Rattle.probed_map.specs.steps.Cells.{entries_of, IsUpdated}
 use Rattle.probed_map.proofs.CellLaws.{cases_option}
 use Rattle.probed_map.proofs.EntryLaws.{distinct_keys, one_if}
-use Rattle.probed_map.proofs.MapLaws.{changed_map, changed_spare, changed_values, given_back, kept_map, none_one, one_more, some_one}
+use Rattle.probed_map.proofs.MapLaws.{changed_map, changed_spare, changed_values, given_back, kept_map, none_one}
+use Rattle.probed_map.proofs.MapLaws.{one_more, some_one}
 use Rattle.probed_map.proofs.map.ProbedMap.insert_if_absent.Goals as goal
 
 pub returns-clause-before : goal.returns-clause-before
