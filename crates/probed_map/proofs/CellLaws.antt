@@ -36,7 +36,7 @@ module _ {K V : Type 0} (eq : K → K → Bool) where
 
   module _ (laws : IsEquivalence eq) where
     pub found_once : (cell : ℕ → Option (Entry K V)) (q : K) (o p : Option V) → IsApart cell → Found cell q o
-          → Found cell q p → o ≡ p
+        → Found cell q p → o ≡ p
     found_once cell q o p apart a b = elim a [
       | inl x ↦ elim b [
         | inl y ↦
@@ -54,15 +54,16 @@ module _ {K V : Type 0} (eq : K → K → Bool) where
 
     -- another key's cell is elsewhere
     elsewhere : (cell : ℕ → Option (Entry K V)) (key q : K) (i j : ℕ) (e : Entry K V) → IsOwn cell key i
-          → eq key q ≡ false
+        → eq key q ≡ false
         → cell j ≡ Some e → eq q e.key ≡ true → j ≢ i
     elsewhere cell key q i j e is other at hit same =
         let mine : eq key e.key ≡ true = is.own e (ap cell (sym same) ∙ at) in
-        true≢false (sym (equal_by eq laws e.key key q (equal_back eq laws key e.key mine) (equal_back eq laws q e.key hit)) ∙ other)
+        true≢false (sym (equal_by eq laws e.key key q (equal_back eq laws key e.key mine)
+        (equal_back eq laws q e.key hit)) ∙ other)
 
     -- no other cell has the key
     pub own_alone : (cell : ℕ → Option (Entry K V)) (key : K) (i j : ℕ) (e : Entry K V) → IsApart cell
-          → IsOwn cell key i
+        → IsOwn cell key i
         → cell j ≡ Some e → eq key e.key ≡ true → j ≡ i
     own_alone cell key i j e apart is at hit = elim (cases_option (cell i)) [
       | inl none ↦ absurd (true≢false (sym hit ∙ is.absent none j e at))
@@ -72,7 +73,8 @@ module _ {K V : Type 0} (eq : K → K → Bool) where
     -- one cell is written
     module _ (cell cell' : ℕ → Option (Entry K V)) (key : K) (i : ℕ) (is : IsOwn cell key i)
         (there : (j : ℕ) → j ≢ i → cell' j ≡ cell j) where
-      pub found_written : (v : V) → cell' i ≡ Some (record { key = key; value = v }) → (q : K) (o : Option V) → Found cell q o
+      pub found_written : (v : V) → cell' i ≡ Some (record { key = key; value = v }) → (q : K) (o : Option V) → Found
+          cell q o
           → Found cell' q (cond (eq key q) (Some v) o)
       found_written v here q o found = by_answer (eq key q)
           (λ y. inl (i, record { key = key; value = v }, here, equal_back eq laws key q y, cond-true (Some v) o y))
@@ -93,13 +95,14 @@ module _ {K V : Type 0} (eq : K → K → Bool) where
           ])
 
       pub found_emptied : IsApart cell → cell' i ≡ None → (q : K) (o : Option V) → Found cell q o
-            → Found cell' q (cond (eq key q) None o)
+          → Found cell' q (cond (eq key q) None o)
       found_emptied apart here q o found = by_answer (eq key q)
           (λ y. inr (
             (λ j e at. by_answer (eq q e.key)
                 (λ hit.
                 let ne : j ≢ i = λ same. absurd_at cell' i j e here same at in
-                absurd (ne (own_alone cell key i j e apart is (sym (there j ne) ∙ at) (laws.congr key q e.key y ∙ hit))))
+                absurd (ne (own_alone cell key i j e apart is (sym (there j ne) ∙ at)
+                (laws.congr key q e.key y ∙ hit))))
                 (λ n. n)),
             cond-true None o y,
           ))
@@ -130,7 +133,8 @@ module _ {K V : Type 0} (eq : K → K → Bool) where
           | inl kk ↦
               let alike : Some f ≡ Some (record { key = key; value = v }) = sym at_k ∙ ap cell' kk ∙ here in
               let one : f ≡ record { key = key; value = v } = cc in
-              let hit : eq key e.key ≡ true = laws.symm key e.key ∙ ap (λ (x : Entry K V). eq e.key x.key) (sym one) ∙ same in
+              let hit : eq key e.key ≡ true = laws.symm key e.key ∙ ap (λ (x : Entry K V). eq e.key x.key) (sym one) ∙
+              same in
               own_alone cell key i j e apart is (sym (there j nj) ∙ at_j) hit ∙ sym kk
           | inr nk ↦ apart j k e f (sym (there j nj) ∙ at_j) (sym (there k nk) ∙ at_k) same
         ]

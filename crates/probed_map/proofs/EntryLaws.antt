@@ -27,19 +27,19 @@ module _ {K V : Type 0} where
   none_past (c ∷ cells) (suc i) p = none_past cells i (omega arith)
 
   pub some_within : (cells : List (Option (Entry K V))) (i : ℕ) (e : Entry K V) → cell_at cells i ≡ Some e
-        → i < length cells
+      → i < length cells
   some_within [] i e at = absurd cc
   some_within (c ∷ cells) zero e at = omega arith
   some_within (c ∷ cells) (suc i) e at = omega (arith, some_within cells i e at)
 
   -- a cell that is read
   pub read_cell : (cells : List (Option (Entry K V))) (i : ℕ) (r o : Option (Entry K V)) → i < length cells
-        → r ≡ get_or cells i r → r ≡ o
+      → r ≡ get_or cells i r → r ≡ o
       → cell_at cells i ≡ o
   read_cell cells i r o lt is same = sym (get_or_read cells i r lt is None) ∙ same
 
   pub read_any : (cells : List (Option (Entry K V))) (i : ℕ) (d o : Option (Entry K V)) → i < length cells
-        → get_or cells i d ≡ o
+      → get_or cells i d ≡ o
       → cell_at cells i ≡ o
   read_any [] i d o lt is = absurd (omega arith)
   read_any (c ∷ cells) zero d o lt is = is
@@ -88,7 +88,7 @@ module _ {K V : Type 0} where
 
   module _ (eq : K → K → Bool) where
     past_none : (cells : List (Option (Entry K V))) (q : K)
-          → Found eq (cell_at cells) q (lookup (eq q) (entries_of cells))
+        → Found eq (cell_at cells) q (lookup (eq q) (entries_of cells))
         → Found eq (cell_at (None ∷ cells)) q (lookup (eq q) (entries_of cells))
     past_none cells q (inl x) = inl (suc x.0, x.1, x.2, x.3, x.4)
     past_none cells q (inr x) = inr (all, x.1)
@@ -109,7 +109,7 @@ module _ {K V : Type 0} where
 
     -- a look-up among the entries finds what a cell holds
     pub looks : (cells : List (Option (Entry K V))) (q : K)
-          → Found eq (cell_at cells) q (lookup (eq q) (entries_of cells))
+        → Found eq (cell_at cells) q (lookup (eq q) (entries_of cells))
     looks [] q = inr ((λ j e at. absurd cc), refl)
     looks (None ∷ cells) q = past_none cells q (looks cells q)
     looks (Some f ∷ cells) q = by_answer (eq q f.key)
@@ -117,7 +117,7 @@ module _ {K V : Type 0} where
         (λ n. past_some cells q f n (looks cells q))
 
     pub all_apart : (cells : List (Option (Entry K V))) (k : K)
-          → ((j : ℕ) (e : Entry K V) → cell_at cells j ≡ Some e → eq k e.key ≡ false)
+        → ((j : ℕ) (e : Entry K V) → cell_at cells j ≡ Some e → eq k e.key ≡ false)
         → AllByRecursion (λ l. eq k l ≡ false) (keys_of (entries_of cells))
     all_apart [] k other = tt
     all_apart (None ∷ cells) k other = all_apart cells k (λ j. other (suc j))
@@ -125,10 +125,11 @@ module _ {K V : Type 0} where
 
     -- no two keys are equal
     pub distinct_keys : (cells : List (Option (Entry K V))) → IsApart eq (cell_at cells)
-          → IsDistinct eq (keys_of (entries_of cells))
+        → IsDistinct eq (keys_of (entries_of cells))
     unfolding IsDistinct
     distinct_keys [] apart = tt
-    distinct_keys (None ∷ cells) apart = distinct_keys cells (λ i j e f a b same. omega (arith, apart (suc i) (suc j) e f a b same))
+    distinct_keys (None ∷ cells) apart = distinct_keys cells
+        (λ i j e f a b same. omega (arith, apart (suc i) (suc j) e f a b same))
     distinct_keys (Some x ∷ cells) apart = (
       all_apart cells x.key (λ j e at. by_answer (eq x.key e.key)
           (λ y. let bad : 0 ≡ suc j = apart 0 (suc j) x e refl at y in absurd (omega arith))

@@ -11,7 +11,7 @@ use Rattle.probed_map.proofs.StepLaws.{steps_same, steps_through, steps_zero}
 
 -- The gap, and a place behind it up to which no entry may move into it. An empty cell is there or beyond.
 pub record IsWalk {K V : Type 0} (eq : K → K → Bool) (home : K → ℕ) (n first : ℕ) (cell : ℕ
-      → Option (Entry K V)) (gap i : ℕ) : Type 0 where
+    → Option (Entry K V)) (gap i : ℕ) : Type 0 where
   pub first_in : first < n
   pub gap_in : gap < n
   pub within : i < n
@@ -27,7 +27,7 @@ clash none some = let bad : None ≡ Some _ = sym none ∙ some in absurd cc
 
 module _ {K V : Type 0} (eq : K → K → Bool) (home : K → ℕ) (n : ℕ) (home_in : (k : K) → home k < n) where
   pub walk_begins : (cell : ℕ → Option (Entry K V)) (gap i : ℕ) → gap < n → cell gap ≡ None
-        → IsProbed eq home n cell gap
+      → IsProbed eq home n cell gap
       → (z : ℕ) → z < n → z ≢ gap → cell z ≡ None → IsNext n gap i → IsWalk eq home n gap cell gap i
   walk_begins cell gap i gap_in empty probed z z_in apart none next =
       let one : steps n gap i ≡ 1 = steps_next n gap i gap_in (omega arith) next in
@@ -98,7 +98,8 @@ module _ {K V : Type 0} (eq : K → K → Bool) (home : K → ℕ) (n : ℕ) (ho
       walk_stays stays =
           let next_in = next_within n i next walk.within follows in
           let here = steps_through n first gap i walk.first_in walk.gap_in walk.within (omega (arith, walk.ahead)) in
-          let there = steps_through n first gap next walk.first_in walk.gap_in next_in (omega (arith, walk.ahead, walk_further)) in
+          let there = steps_through n first gap next walk.first_in walk.gap_in next_in
+          (omega (arith, walk.ahead, walk_further)) in
           record {
             first_in = walk.first_in;
             gap_in = walk.gap_in;
@@ -121,9 +122,9 @@ module _ {K V : Type 0} (eq : K → K → Bool) (home : K → ℕ) (n : ℕ) (ho
       -- another moves into it, and leaves one
       module _ (cell' : ℕ → Option (Entry K V)) (before : steps n (home e.key) gap < steps n (home e.key) i)
           (moved : cell' gap ≡ Some e) (left : cell' i ≡ None) (there : (j : ℕ) → j ≢ gap → j ≢ i
-                → cell' j ≡ cell j) where
+          → cell' j ≡ cell j) where
         old : (j : ℕ) (f : Entry K V) → cell' j ≡ Some f
-              → ((j ≡ gap) × (f ≡ e)) ⊎ ((j ≢ gap) × (j ≢ i) × (cell j ≡ Some f))
+            → ((j ≡ gap) × (f ≡ e)) ⊎ ((j ≢ gap) × (j ≢ i) × (cell j ≡ Some f))
         old j f held = elim (cases_eq j gap) [
           | inl same ↦
               let alike : Some f ≡ Some e = sym held ∙ ap cell' same ∙ moved in
@@ -171,7 +172,8 @@ module _ {K V : Type 0} (eq : K → K → Bool) (home : K → ℕ) (n : ℕ) (ho
         pub walk_moves : IsWalk eq home n first cell' i next
         walk_moves =
             let next_in = next_within n i next walk.within follows in
-            let one = steps_next n i next walk.within (omega (arith, steps_below n first i walk.first_in walk.within, walk.ahead)) follows in
+            let one = steps_next n i next walk.within
+            (omega (arith, steps_below n first i walk.first_in walk.within, walk.ahead)) follows in
             let z = walk.last.0 in
             let not_gap : z ≢ gap = λ same. omega (arith, ap (steps n first) same, walk.ahead, last_beyond) in
             let not_i : z ≢ i = λ same. omega (arith, ap (steps n first) same, last_beyond) in

@@ -43,7 +43,7 @@ module _ {K V : Type 0} where
   entries_add (Some f ∷ cells) (suc k) e at = ap (λ es. (f.key, f.value) ∷ es) (entries_add cells k e at)
 
   pub entries_part : (cells : List (Option (Entry K V))) (k : ℕ)
-        → length (entries_of (take k cells)) ≤ length (entries_of cells)
+      → length (entries_of (take k cells)) ≤ length (entries_of cells)
   entries_part [] zero = omega arith
   entries_part [] (suc k) = omega arith
   entries_part (None ∷ cells) zero = omega arith
@@ -92,7 +92,13 @@ module _ {K V : Type 0} where
       pub room_for : (e : Entry K V) → cell_at old k ≡ Some e → length (entries_of cells) < length (entries_of old)
       room_for e at =
           let more = ap length (entries_add old k e at) in
-          omega (arith, more, length_push (entries_of (take k old)) (e.key, e.value), entries_part old (suc k), has.counted)
+          omega (
+            arith,
+            more,
+            length_push (entries_of (take k old)) (e.key, e.value),
+            entries_part old (suc k),
+            has.counted,
+          )
 
       module _ (laws : IsEquivalence eq) (table : IsTable eq writes keys old) where
         absent : (e : Entry K V) → cell_at old k ≡ Some e → IsAbsent (eq e.key) (entries_of (take k old))
@@ -109,7 +115,7 @@ module _ {K V : Type 0} where
         -- an entry is put
         pub adds : (cells' : List (Option (Entry K V))) (e : Entry K V) → cell_at old k ≡ Some e
             → IsUpdated eq writes keys cells cells' e.key (Some e.value)
-                  → HasEntries eq writes keys (take (k + 1) old) cells'
+            → HasEntries eq writes keys (take (k + 1) old) cells'
         adds cells' e at updated =
             let before = entries_of (take k old) in
             let one : suc k ≡ k + 1 = omega arith in
@@ -120,5 +126,13 @@ module _ {K V : Type 0} where
               table = updated.table;
               values = λ q. updated.values q ∙ ap (cond (eq e.key q) (Some e.value)) (has.values q)
                   ∙ sym ((Updated-push eq laws before e.key e.value (absent e at)).0 q) ∙ sym (ap (lookup (eq q)) more);
-              counted = omega (arith, updated.counted, ap (λ (o : Option V). one_if o) none, has.counted, ap length more, length_push before (e.key, e.value));
+              counted = omega (
+                arith,
+                updated.counted,
+                ap (λ (o : Option V). one_if o) none,
+                has.counted,
+                ap length
+                    more,
+                length_push before (e.key, e.value),
+              );
             })

@@ -43,23 +43,24 @@ none_one o e = ap (λ p. one_if p) e
 
 -- nothing has
 pub kept_map : {K V : Type 0} (eq : K → K → Bool) (writes : K
-      → HashWrites) (keys : WordState) (cells final : List (Option (Entry K V)))
+    → HashWrites) (keys : WordState) (cells final : List (Option (Entry K V)))
     (len len' : ℕ) → IsMap eq writes keys cells len → final ≡ cells → len' ≡ len → IsMap eq writes keys final len'
 kept_map eq writes keys cells final len len' map back same =
     subst (λ cs. IsMap eq writes keys cs len') (sym back) (subst (IsMap eq writes keys cells) (sym same) map)
 
 -- a key's value has changed
 module _ {K V : Type 0} (eq : K → K → Bool) (writes : K
-      → HashWrites) (keys : WordState) (cells cells' final : List (Option (Entry K V)))
+    → HashWrites) (keys : WordState) (cells cells' final : List (Option (Entry K V)))
     (len : ℕ) (key : K) (value : Option V) (m : HashMap K V WordState)
     (is : hash_map (entries_of cells) keys (room_of (length cells) - len) ≡ m)
-    (map : IsMap eq writes keys cells len) (updated : IsUpdated eq writes keys cells cells' key value) (back : final ≡ cells') where
+    (map : IsMap eq writes keys cells len) (updated : IsUpdated eq writes keys cells cells' key value)
+    (back : final ≡ cells') where
   pub changed_values : (q : K) → lookup (eq q) (entries_of final) ≡ cond (eq key q) value (get eq m q)
   changed_values q =
       ap (λ cs. lookup (eq q) (entries_of cs)) back ∙ updated.values q ∙ ap (λ n. cond (eq key q) value (get eq n q)) is
 
   pub changed_map : (len' : ℕ) → len' + one_if (lookup (eq key) (entries_of cells)) ≡ len + one_if value
-        → IsMap eq writes keys final len'
+      → IsMap eq writes keys final len'
   changed_map len' counted = subst (λ cs. IsMap eq writes keys cs len') (sym back) (record {
     table = updated.table;
     counted = omega (arith, counted, updated.counted, map.counted);

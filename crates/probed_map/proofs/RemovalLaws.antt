@@ -39,7 +39,8 @@ module _ {K V : Type 0} (eq : K → K → Bool) (writes : K → HashWrites) (key
     homes k = home_below keys (length cells) (writes k) some
 
     -- one entry moves
-    moves : steps (length cells) (home_in {V = V} eq writes keys cells e.key) gap < steps (length cells) (home_in {V = V} eq writes keys cells e.key) i
+    moves : steps (length cells) (home_in {V = V} eq writes keys cells e.key) gap < steps (length cells)
+        (home_in {V = V} eq writes keys cells e.key) i
         → IsStep first cells (set (set cells gap (Some e)) i None) i next
     moves before =
         let among = set cells gap (Some e) in
@@ -49,9 +50,11 @@ module _ {K V : Type 0} (eq : K → K → Bool) (writes : K → HashWrites) (key
         let long_among : length among ≡ length cells = length-set cells gap (Some e) in
         let long : length after ≡ length cells = length-set among i None ∙ long_among in
         let at_among : cell_at among i ≡ Some e = cell_other cells gap (Some e) i apart ∙ at in
-        let moved : cell_at after gap ≡ Some e = cell_other among i None gap apart' ∙ cell_set cells gap (Some e) walk.gap_in in
+        let moved : cell_at after gap ≡ Some e = cell_other among i None gap apart' ∙ cell_set cells gap (Some e)
+        walk.gap_in in
         let left : cell_at after i ≡ None = cell_set among i None (omega (arith, long_among, walk.within)) in
-        let there = λ (j : ℕ) (ne : j ≢ gap) (ni : j ≢ i). cell_other among i None j ni ∙ cell_other cells gap (Some e) j ne in
+        let there = λ (j : ℕ) (ne : j ≢ gap) (ni : j ≢ i). cell_other among i None j ni ∙ cell_other cells gap
+        (Some e) j ne in
         let count_among = counts_set cells gap (Some e) walk.gap_in in
         let count_after = counts_set among i None (omega (arith, long_among, walk.within)) in
         record {
@@ -64,13 +67,17 @@ module _ {K V : Type 0} (eq : K → K → Bool) (writes : K → HashWrites) (key
             ap (λ (o : Option (Entry K V)). one_if o) at_among,
           );
           walk = subst (λ n. IsWalk eq (λ k. home_of keys n (writes k)) n first (cell_at after) i next) (sym long)
-              (walk_moves eq _ _ homes first (cell_at cells) gap i walk e at next follows (cell_at after) before moved left there);
-          finds = found_moved eq _ _ homes first (cell_at cells) gap i walk e at next follows (cell_at after) before moved left there;
+              (walk_moves eq _ _ homes first (cell_at cells) gap i walk e at next follows (cell_at after) before moved
+              left there);
+          finds = found_moved eq _ _ homes first (cell_at cells) gap i walk e at next follows (cell_at after) before
+              moved left there;
         }
 
-    pub walks_on : IsPulled (home_in {V = V} eq writes keys cells) cells cells' gap i e gap' → IsStep first cells cells' gap' next
+    pub walks_on : IsPulled (home_in {V = V} eq writes keys cells) cells cells' gap i e gap' → IsStep first cells
+        cells' gap' next
     walks_on pulled = elim pulled [
-      | inl x ↦ subst (λ cs. IsStep first cells cs gap' next) (sym x.1) (subst (λ k. IsStep first cells cells k next) (sym x.2)
+      | inl x ↦ subst (λ cs. IsStep first cells cs gap' next) (sym x.1)
+          (subst (λ k. IsStep first cells cells k next) (sym x.2)
           (record {
             long = refl;
             counted = refl;
@@ -87,14 +94,15 @@ module _ {K V : Type 0} (eq : K → K → Bool) (writes : K → HashWrites) (key
   module _ (laws : IsEquivalence eq) where
     -- the gap is closed
     pub closed : (first : ℕ) (before cells : List (Option (Entry K V))) (gap i : ℕ) → IsWalkOf first cells gap i
-          → cell_at cells i ≡ None
+        → cell_at cells i ≡ None
         → length cells ≡ length before → length (entries_of cells) ≡ length (entries_of before)
         → length (entries_of before) ≤ room_of (length before) → length before ≤ 2 ^ 32
         → ((q : K) → Found eq (cell_at cells) q (lookup (eq q) (entries_of before)))
         → HasEntries eq writes keys before cells
     closed first before cells gap i walk none long counted room few finds =
         let some : 0 < length cells = omega (arith, walk.within) in
-        let probed = walk_ends eq _ _ (λ k. home_below keys (length cells) (writes k) some) first (cell_at cells) gap i walk none in
+        let probed = walk_ends eq _ _ (λ k. home_below keys (length cells) (writes k) some) first (cell_at cells) gap
+        i walk none in
         record {
           table = record {
             probed = probed;
@@ -106,12 +114,15 @@ module _ {K V : Type 0} (eq : K → K → Bool) (writes : K → HashWrites) (key
         }
 
     -- an entry is taken out
-    module _ (cells : List (Option (Entry K V))) (key : K) (i : ℕ) (e : Entry K V) (table : IsTable eq writes keys cells)
+    module _ (cells : List (Option (Entry K V))) (key : K) (i : ℕ) (e : Entry K V)
+        (table : IsTable eq writes keys cells)
         (ends : EndsAt eq writes keys cells key i) (lt : i < length cells) (at : cell_at cells i ≡ Some e) where
       emptied : IsProbedBut eq writes keys (set cells i None) i
       emptied =
-          subst (λ n. IsProbed eq (λ k. home_of keys n (writes k)) n (cell_at (set cells i None)) i) (sym (length-set cells i None))
-          (probed_emptied eq (home_in eq writes keys cells) (length cells) (cell_at cells) (cell_at (set cells i None)) i (cell_other cells i None)
+          subst (λ n. IsProbed eq (λ k. home_of keys n (writes k)) n (cell_at (set cells i None)) i)
+          (sym (length-set cells i None))
+          (probed_emptied eq (home_in eq writes keys cells) (length cells) (cell_at cells)
+          (cell_at (set cells i None)) i (cell_other cells i None)
           (cell_set cells i None lt) table.probed)
 
       pub gapped : HasGap eq writes keys (set cells i None) i
@@ -126,7 +137,8 @@ module _ {K V : Type 0} (eq : K → K → Bool) (writes : K → HashWrites) (key
             empty = cell_set cells i None lt;
             probed = emptied;
             other = (other.0, omega (arith, long, other.1), apart, cell_other cells i None other.0 apart ∙ other.2);
-            room = subst (λ n. length (entries_of (set cells i None)) ≤ room_of n) (sym long) (omega (arith, counted, table.room));
+            room = subst (λ n. length (entries_of (set cells i None)) ≤ room_of n) (sym long)
+                (omega (arith, counted, table.room));
             few = omega (arith, long, table.few);
           }
 
@@ -139,11 +151,13 @@ module _ {K V : Type 0} (eq : K → K → Bool) (writes : K → HashWrites) (key
             table = has.table;
             long = long ∙ length-set cells i None;
             values = λ q. has.values q ∙ found_once eq laws (cell_at among) q _ _ emptied.distinct (looks eq among q)
-                (found_emptied eq laws (cell_at cells) (cell_at among) key i (owns eq laws writes keys cells key i ends) (cell_other cells i None)
+                (found_emptied eq laws (cell_at cells) (cell_at among) key i
+                (owns eq laws writes keys cells key i ends) (cell_other cells i None)
                 table.probed.distinct (cell_set cells i None lt) q _ (looks eq cells q));
             counted =
                 let there : one_if (lookup (eq key) (entries_of cells)) ≡ 1
-                = ap (λ (o : Option V). one_if o) (sym (value_there eq laws writes keys cells key i table.probed.distinct ends)
+                = ap (λ (o : Option V). one_if o) (sym (value_there eq laws writes keys cells key i
+                table.probed.distinct ends)
                 ∙ ap (option_map (λ (x : Entry K V). x.value)) at) in
                 omega (arith, counted, has.counted, there, ap (λ (o : Option (Entry K V)). one_if o) at);
           }

@@ -10,14 +10,14 @@ use Rattle.probed_map.proofs.StepLaws.{next_within, steps_further, steps_same, s
 
 -- the cells from a home to a place are filled, with other keys
 pub record IsPassed {K V : Type 0} (eq : K → K → Bool) (n home : ℕ) (cell : ℕ
-      → Option (Entry K V)) (key : K) (i : ℕ) : Type 0 where
+    → Option (Entry K V)) (key : K) (i : ℕ) : Type 0 where
   pub within : i < n
   pub passed : (j : ℕ) → j < n → steps n home j < steps n home i → cell j ≢ None
   pub missed : (j : ℕ) (e : Entry K V) → j < n → steps n home j < steps n home i → cell j ≡ Some e
-        → eq key e.key ≡ false
+      → eq key e.key ≡ false
 
 module _ {K V : Type 0} (eq : K → K → Bool) (n home : ℕ) (cell : ℕ
-      → Option (Entry K V)) (key : K) (home_in : home < n) where
+    → Option (Entry K V)) (key : K) (home_in : home < n) where
   pub begins : IsPassed eq n home cell key home
   begins = record {
     within = home_in;
@@ -28,7 +28,7 @@ module _ {K V : Type 0} (eq : K → K → Bool) (n home : ℕ) (cell : ℕ
   module _ (i : ℕ) (is : IsPassed eq n home cell key i) where
     -- an empty cell is not before
     pub empty_beyond : (z : ℕ) → z < n → cell z ≡ None → (e : Entry K V) → cell i ≡ Some e
-          → steps n home i < steps n home z
+        → steps n home i < steps n home z
     empty_beyond z p none e at = elim (cases_lt (steps n home i) (steps n home z)) [
       | inl lt ↦ lt
       | inr le ↦ elim (cases_lt (steps n home z) (steps n home i)) [
@@ -68,10 +68,10 @@ module _ {K V : Type 0} (eq : K → K → Bool) (n home : ℕ) (cell : ℕ
 
 -- a search that ends at an empty cell has missed nothing
 pub none_missed : {K V : Type 0} (eq : K → K → Bool) (home : K → ℕ) (n : ℕ) (cell : ℕ
-      → Option (Entry K V)) (key : K) (i : ℕ)
+    → Option (Entry K V)) (key : K) (i : ℕ)
     → home key < n → ((q : K) → eq key q ≡ true → home q ≡ home key) → IsProbed eq home n cell n
     → IsPassed eq n (home key) cell key i → cell i ≡ None → (j : ℕ) (e : Entry K V) → cell j ≡ Some e
-          → eq key e.key ≡ false
+    → eq key e.key ≡ false
 none_missed eq home n cell key i home_in agrees probed is none j e at = by_answer (eq key e.key)
     (λ y.
     let p : j < n = probed.within j e at in
@@ -95,7 +95,7 @@ none_missed eq home n cell key i home_in agrees probed is none j e at = by_answe
 module _ {K V : Type 0} (eq : K → K → Bool) (home : K → ℕ) (n : ℕ) (cell cell' : ℕ → Option (Entry K V)) (i : ℕ)
     (there : (j : ℕ) → j ≢ i → cell' j ≡ cell j) where
   pub within_written : (gap : ℕ) → IsProbed eq home n cell gap → i < n → (j : ℕ) (e : Entry K V) → cell' j ≡ Some e
-        → j < n
+      → j < n
   within_written gap probed p j e at = elim (cases_eq j i) [
     | inl same ↦ omega arith
     | inr ne ↦ probed.within j e (sym (there j ne) ∙ at)
@@ -123,7 +123,8 @@ module _ {K V : Type 0} (eq : K → K → Bool) (home : K → ℕ) (n : ℕ) (ce
   probed_emptied here probed = record {
     within = λ j e at. probed.within j e (old j e at);
     distinct = λ j k e f at_j at_k same. probed.distinct j k e f (old j e at_j) (old k f at_k) same;
-    filled = λ j k e at p ne before bad. probed.filled j k e (old j e at) p (λ same. omega arith) before (sym (there k ne) ∙ bad);
+    filled = λ j k e at p ne before bad. probed.filled j k e (old j e at) p (λ same. omega arith) before
+        (sym (there k ne) ∙ bad);
   }
     where
       old : (j : ℕ) (e : Entry K V) → cell' j ≡ Some e → cell j ≡ Some e

@@ -35,11 +35,11 @@ module _ (n : ℕ) where
 
   -- on the way to a cell past another the steps are those to the other and those from there
   pub steps_through : (a b c : ℕ) → a < n → b < n → c < n → steps n a b ≤ steps n a c
-        → steps n a b + steps n b c ≡ steps n a c
+      → steps n a b + steps n b c ≡ steps n a c
   steps_through a b c p q r le = omega (arith, steps_lead n a b p q, steps_lead n a c p r, steps_lead n b c q r)
 
   pub steps_along : (a b c : ℕ) → a < n → b < n → c < n → steps n a b + steps n b c < n
-        → steps n a c ≡ steps n a b + steps n b c
+      → steps n a c ≡ steps n a b + steps n b c
   steps_along a b c p q r lt = omega (arith, steps_lead n a b p q, steps_lead n a c p r, steps_lead n b c q r)
 
   -- the next cell
@@ -51,6 +51,6 @@ module _ (n : ℕ) where
 
   -- one step more, where another cell is beyond
   pub steps_further : (a b c z : ℕ) → a < n → b < n → z < n → steps n a b < steps n a z → IsNext n b c
-        → steps n a c ≡ steps n a b + 1
+      → steps n a c ≡ steps n a b + 1
   steps_further a b c z p q r before next =
       omega (arith, steps_lead n a b p q, steps_lead n a z p r, steps_lead n a c p (next_within b c q next), next)

@@ -20,7 +20,7 @@ module _ {K V : Type 0} where
 
 -- No two cells hold equal keys, and between a key's home and its cell no cell is empty but a gap.
 pub record IsProbed {K V : Type 0} (eq : K → K → Bool) (home : K → ℕ) (count : ℕ) (cell : ℕ
-      → Option (Entry K V)) (gap : ℕ) : Type 0 where
+    → Option (Entry K V)) (gap : ℕ) : Type 0 where
   pub within : (i : ℕ) (e : Entry K V) → cell i ≡ Some e → i < count
   pub distinct : (i j : ℕ) (e f : Entry K V) → cell i ≡ Some e → cell j ≡ Some f → eq e.key f.key ≡ true → i ≡ j
   pub filled : (i j : ℕ) (e : Entry K V) → cell i ≡ Some e → j < count → j ≢ gap
@@ -48,7 +48,7 @@ module _ {K V : Type 0} (eq : K → K → Bool) (writes : K → HashWrites) (key
     pub absent : cell_at cells i ≡ None → (j : ℕ) (e : Entry K V) → cell_at cells j ≡ Some e → eq key e.key ≡ false
     pub passed : (j : ℕ) → j < length cells
         → steps (length cells) (home_in cells key) j < steps (length cells) (home_in cells key) i
-              → cell_at cells j ≢ None
+        → cell_at cells j ≢ None
 
   -- a key has this value now, or none, and each other key what it had
   pub record IsUpdated (cells cells' : List (Option (Entry K V))) (key : K) (value : Option V) : Type 0 where
@@ -75,11 +75,12 @@ module _ {K V : Type 0} (eq : K → K → Bool) (writes : K → HashWrites) (key
 
 -- An entry moves into a gap and leaves one, unless its search wouldn't come there.
 abbrev pub IsPulled : {K V : Type 0} → (K → ℕ) → List (Option (Entry K V)) → List (Option (Entry K V)) → ℕ → ℕ
-      → Entry K V → ℕ → Type 0
+    → Entry K V → ℕ → Type 0
 IsPulled home cells cells' gap i e gap' =
     let count = length cells in
     ((steps count (home e.key) i ≤ steps count (home e.key) gap) × (cells' ≡ cells) × (gap' ≡ gap))
-    ⊎ ((steps count (home e.key) gap < steps count (home e.key) i) × (cells' ≡ set (set cells gap (Some e)) i None) × (gap' ≡ i))
+    ⊎ ((steps count (home e.key) gap < steps count (home e.key) i) × (cells' ≡ set (set cells gap (Some e)) i None) ×
+    (gap' ≡ i))
 
 -- What is true of a map's parts.
 pub record IsMap {K V : Type 0} (eq : K → K → Bool) (writes : K → HashWrites) (keys : WordState)

@@ -18,9 +18,11 @@ next_cell-index-requires g c = (c.loop-index.invariant.within, c.requires.few)
 
 pub loop-index-init : goal.loop-index-init
 loop-index-init g c =
-    subst (λ i. IsPassed g.K.PartialEq.eq (length c.args.cells.now) (home_in g.K.PartialEq.eq g.K.Hash.hash_input c.args.keys c.args.cells.now c.args.key)
+    subst (λ i. IsPassed g.K.PartialEq.eq (length c.args.cells.now)
+    (home_in g.K.PartialEq.eq g.K.Hash.hash_input c.args.keys c.args.cells.now c.args.key)
     (cell_at c.args.cells.now) c.args.key i) (sym c.home_of-index.ensures.value)
-    (begins g.K.PartialEq.eq _ _ (cell_at c.args.cells.now) c.args.key (home_below c.args.keys (length c.args.cells.now) _ (omega arith)))
+    (begins g.K.PartialEq.eq _ _ (cell_at c.args.cells.now) c.args.key
+    (home_below c.args.keys (length c.args.cells.now) _ (omega arith)))
 
 pub returns-then-eq : goal.returns-then-eq
 returns-then-eq g c =

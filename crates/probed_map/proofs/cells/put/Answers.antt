@@ -10,6 +10,8 @@ returns-clause-before g c =
 
 pub returns-clause-after : goal.returns-clause-after
 returns-clause-after g c =
-    written g.K.PartialEq.eq g.met.K.Eq.laws g.K.Hash.hash_input c.args.keys c.args.cells.now c.args.entry.key c.args.entry.value
-    c.find-index.result c.requires.table c.find-index.ensures (c.find-index.ensures.within (omega (arith, c.requires.room)))
+    written g.K.PartialEq.eq g.met.K.Eq.laws g.K.Hash.hash_input c.args.keys c.args.cells.now c.args.entry.key
+    c.args.entry.value
+    c.find-index.result c.requires.table c.find-index.ensures
+    (c.find-index.ensures.within (omega (arith, c.requires.room)))
     (omega (arith, c.requires.room))

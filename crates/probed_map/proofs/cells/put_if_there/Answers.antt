@@ -12,7 +12,8 @@ returns-then-is_some-clause-before g c =
 pub returns-then-is_some-clause-after : goal.returns-then-is_some-clause-after
 returns-then-is_some-clause-after g c some =
     let there = filled_there c.args.cells.now c.find-index.result (subst IsSome c.value_at-before.ensures some) in
-    written g.K.PartialEq.eq g.met.K.Eq.laws g.K.Hash.hash_input c.args.keys c.args.cells.now c.args.entry.key c.args.entry.value
+    written g.K.PartialEq.eq g.met.K.Eq.laws g.K.Hash.hash_input c.args.keys c.args.cells.now c.args.entry.key
+    c.args.entry.value
     c.find-index.result c.requires.table c.find-index.ensures there.0 (omega (arith, there.1, c.requires.table.room))
 
 pub returns-else-is_some-clause-before : goal.returns-else-is_some-clause-before
@@ -25,5 +26,7 @@ pub returns-then-is_some-clause-table : goal.returns-then-is_some-clause-table
 returns-then-is_some-clause-table g c =
     let some = sym c.is_some.ensures ∙ c.if-is_some.true in
     let there = filled_there c.args.cells.now c.find-index.result (subst IsSome c.value_at-before.ensures some) in
-    (written g.K.PartialEq.eq g.met.K.Eq.laws g.K.Hash.hash_input c.args.keys c.args.cells.now c.args.entry.key c.args.entry.value
-    c.find-index.result c.requires.table c.find-index.ensures there.0 (omega (arith, there.1, c.requires.table.room))).table
+    (written g.K.PartialEq.eq g.met.K.Eq.laws g.K.Hash.hash_input c.args.keys c.args.cells.now c.args.entry.key
+    c.args.entry.value
+    c.find-index.result c.requires.table c.find-index.ensures there.0
+    (omega (arith, there.1, c.requires.table.room))).table

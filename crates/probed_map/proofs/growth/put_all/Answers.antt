@@ -8,7 +8,8 @@ use Rattle.probed_map.proofs.growth.put_all.Goals.{in-Some, in_default}
 
 pub loop-index-init : goal.loop-index-init
 loop-index-init g c = record {
-  entries = starts g.K.PartialEq.eq g.K.Hash.hash_input c.args.keys c.args.old.now c.args.cells.now c.requires.empty c.requires.few;
+  entries = starts g.K.PartialEq.eq g.K.Hash.hash_input c.args.keys c.args.old.now c.args.cells.now c.requires.empty
+      c.requires.few;
   long = refl;
 }
 
@@ -30,13 +31,17 @@ loop-index-preserved g c =
     let within : now.index < length old = omega arith in
     elim c.match-old-index.branch [
       | in-Some w ↦ record {
-        entries = subst (HasEntries g.K.PartialEq.eq g.K.Hash.hash_input c.args.keys (take (now.index + 1) old)) (sym w.cells-is)
-            (adds g.K.PartialEq.eq g.K.Hash.hash_input c.args.keys old now.cells now.index now.invariant.entries g.met.K.Eq.laws
-            c.requires.table w.put.new.cells w.in-Some.entry (read_any old now.index _ _ within w.in-Some.is) w.put.ensures.after);
+        entries = subst (HasEntries g.K.PartialEq.eq g.K.Hash.hash_input c.args.keys (take (now.index + 1) old))
+            (sym w.cells-is)
+            (adds g.K.PartialEq.eq g.K.Hash.hash_input c.args.keys old now.cells now.index now.invariant.entries
+            g.met.K.Eq.laws
+            c.requires.table w.put.new.cells w.in-Some.entry (read_any old now.index _ _ within w.in-Some.is)
+            w.put.ensures.after);
         long = ap length w.cells-is ∙ w.put.ensures.after.long ∙ now.invariant.long;
       }
       | in_default w ↦ record {
-        entries = subst (HasEntries g.K.PartialEq.eq g.K.Hash.hash_input c.args.keys (take (now.index + 1) old)) (sym w.cells-is)
+        entries = subst (HasEntries g.K.PartialEq.eq g.K.Hash.hash_input c.args.keys (take (now.index + 1) old))
+            (sym w.cells-is)
             (skips g.K.PartialEq.eq g.K.Hash.hash_input c.args.keys old now.cells now.index now.invariant.entries
             (read_any old now.index _ _ within w.in_default.is));
         long = ap length w.cells-is ∙ now.invariant.long;

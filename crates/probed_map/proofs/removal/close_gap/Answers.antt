@@ -14,9 +14,11 @@ loop-cells-init g c =
     record {
       long = refl;
       counted = refl;
-      walk = walk_begins g.K.PartialEq.eq (home_in g.K.PartialEq.eq g.K.Hash.hash_input c.args.keys cells) (length cells)
+      walk = walk_begins g.K.PartialEq.eq (home_in g.K.PartialEq.eq g.K.Hash.hash_input c.args.keys cells)
+          (length cells)
           (λ k. home_below c.args.keys (length cells) (g.K.Hash.hash_input k) (omega (arith, gap.within)))
-          (cell_at cells) c.args.first c.next_cell-index.result gap.within gap.empty gap.probed gap.other.0 gap.other.1 gap.other.2
+          (cell_at cells) c.args.first c.next_cell-index.result gap.within gap.empty gap.probed gap.other.0
+          gap.other.1 gap.other.2
           gap.other.3 c.next_cell-index.ensures;
       finds = looks g.K.PartialEq.eq cells;
     }
@@ -26,12 +28,16 @@ loop-cells-smaller g c =
     let now = c.loop-cells in
     let is = now.invariant in
     let at = read_any now.cells now.index _ _ is.walk.within c.in-Some.is in
-    let next = subst (λ n. IsNext n now.index c.next_cell-index-in-Some.result) (sym is.long) c.next_cell-index-in-Some.ensures in
-    let step = walks_on g.K.PartialEq.eq g.K.Hash.hash_input c.args.keys c.args.first now.cells c.pull-gap.new.cells now.gap now.index
+    let next = subst (λ n. IsNext n now.index c.next_cell-index-in-Some.result) (sym is.long)
+    c.next_cell-index-in-Some.ensures in
+    let step = walks_on g.K.PartialEq.eq g.K.Hash.hash_input c.args.keys c.args.first now.cells c.pull-gap.new.cells
+    now.gap now.index
     c.pull-gap.result _ c.in-Some.entry is.walk at next c.pull-gap.ensures in
-    subst (λ n. n - steps n c.args.first c.next_cell-index-in-Some.result < length now.cells - steps (length now.cells) c.args.first now.index)
+    subst (λ n. n - steps n c.args.first c.next_cell-index-in-Some.result < length now.cells - steps
+    (length now.cells) c.args.first now.index)
     (sym step.long)
-    (comes_nearer g.K.PartialEq.eq g.K.Hash.hash_input c.args.keys c.args.first now.cells c.pull-gap.new.cells now.gap now.index
+    (comes_nearer g.K.PartialEq.eq g.K.Hash.hash_input c.args.keys c.args.first now.cells c.pull-gap.new.cells now.gap
+    now.index
     c.pull-gap.result _ c.in-Some.entry is.walk at next)
 
 pub loop-cells-preserved : goal.loop-cells-preserved
@@ -39,8 +45,10 @@ loop-cells-preserved g c =
     let now = c.loop-cells in
     let is = now.invariant in
     let at = read_any now.cells now.index _ _ is.walk.within c.in-Some.is in
-    let next = subst (λ n. IsNext n now.index c.next_cell-index-in-Some.result) (sym is.long) c.next_cell-index-in-Some.ensures in
-    let step = walks_on g.K.PartialEq.eq g.K.Hash.hash_input c.args.keys c.args.first now.cells c.pull-gap.new.cells now.gap now.index
+    let next = subst (λ n. IsNext n now.index c.next_cell-index-in-Some.result) (sym is.long)
+    c.next_cell-index-in-Some.ensures in
+    let step = walks_on g.K.PartialEq.eq g.K.Hash.hash_input c.args.keys c.args.first now.cells c.pull-gap.new.cells
+    now.gap now.index
     c.pull-gap.result _ c.in-Some.entry is.walk at next c.pull-gap.ensures in
     record {
       long = step.long ∙ is.long;
@@ -53,5 +61,7 @@ pub returns-clause-entries : goal.returns-clause-entries
 returns-clause-entries g c =
     let now = c.loop-cells in
     let is = now.invariant in
-    closed g.K.PartialEq.eq g.K.Hash.hash_input c.args.keys g.met.K.Eq.laws c.args.first c.args.cells.now now.cells now.gap now.index
-    is.walk (read_any now.cells now.index _ _ is.walk.within c.in_default.is) is.long is.counted c.requires.room c.requires.few is.finds
+    closed g.K.PartialEq.eq g.K.Hash.hash_input c.args.keys g.met.K.Eq.laws c.args.first c.args.cells.now now.cells
+    now.gap now.index
+    is.walk (read_any now.cells now.index _ _ is.walk.within c.in_default.is) is.long is.counted c.requires.room
+    c.requires.few is.finds

@@ -13,8 +13,10 @@ returns-then-is_some-clause-before g c =
 pub returns-then-is_some-clause-after : goal.returns-then-is_some-clause-after
 returns-then-is_some-clause-after g c some =
     let there = filled_there c.args.cells.now c.find-index.result (subst IsSome c.value_at-before.ensures some) in
-    taken g.K.PartialEq.eq g.K.Hash.hash_input c.args.keys g.met.K.Eq.laws c.args.cells.now c.args.key c.find-index.result there.2.0
-    c.requires c.find-index.ensures there.0 there.2.1 c.close_gap.new.cells c.close_gap.ensures.entries c.close_gap.ensures.long
+    taken g.K.PartialEq.eq g.K.Hash.hash_input c.args.keys g.met.K.Eq.laws c.args.cells.now c.args.key
+    c.find-index.result there.2.0
+    c.requires c.find-index.ensures there.0 there.2.1 c.close_gap.new.cells c.close_gap.ensures.entries
+    c.close_gap.ensures.long
 
 pub returns-else-is_some-clause-before : goal.returns-else-is_some-clause-before
 returns-else-is_some-clause-before g c =
@@ -26,7 +28,8 @@ pub close_gap-requires : goal.close_gap-requires
 close_gap-requires g c =
     let some = sym c.is_some.ensures ∙ c.if-is_some.true in
     let there = filled_there c.args.cells.now c.find-index.result (subst IsSome c.value_at-before.ensures some) in
-    gapped g.K.PartialEq.eq g.K.Hash.hash_input c.args.keys g.met.K.Eq.laws c.args.cells.now c.args.key c.find-index.result there.2.0
+    gapped g.K.PartialEq.eq g.K.Hash.hash_input c.args.keys g.met.K.Eq.laws c.args.cells.now c.args.key
+    c.find-index.result there.2.0
     c.requires c.find-index.ensures there.0 there.2.1
 
 pub returns-then-is_some-clause-table : goal.returns-then-is_some-clause-table

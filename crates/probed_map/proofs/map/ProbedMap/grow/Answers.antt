@@ -18,4 +18,5 @@ returns-clause-values g c q =
 
 pub returns-clause-unique : goal.returns-clause-unique
 returns-clause-unique g c =
-    distinct_keys g.K.PartialEq.eq c.in_ok-self-inside.field-0.items c.in_ok-self-inside.ensures.entries.table.probed.distinct
+    distinct_keys g.K.PartialEq.eq c.in_ok-self-inside.field-0.items
+    c.in_ok-self-inside.ensures.entries.table.probed.distinct

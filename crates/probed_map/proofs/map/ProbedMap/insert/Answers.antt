@@ -22,13 +22,23 @@ pub invariant_of-self : goal.invariant_of-self
 invariant_of-self g c =
     let cells = c.self.inside.cells in
     let eq = g.K.PartialEq.eq in
-    let back = given_back cells.len cells.items c.put-before.new.cells (sym (c.put-before.ensures.after.long ∙ c.deref_mut.ensures.len)) in
-    let updated = subst (λ cs. IsUpdated eq g.K.Hash.hash_input c.self.inside.keys cs c.put-before.new.cells c.args.key (Some c.args.value))
+    let back = given_back cells.len cells.items c.put-before.new.cells
+    (sym (c.put-before.ensures.after.long ∙ c.deref_mut.ensures.len)) in
+    let updated = subst (λ cs. IsUpdated eq g.K.Hash.hash_input c.self.inside.keys cs c.put-before.new.cells
+    c.args.key (Some c.args.value))
     c.deref_mut.ensures.value c.put-before.ensures.after in
-    let before = c.put-before.ensures.before ∙ ap (λ cs. lookup (eq c.args.key) (entries_of cs)) c.deref_mut.ensures.value in
-    changed_map eq g.K.Hash.hash_input c.self.inside.keys cells.items c.put-before.new.cells _ c.self.inside.len c.args.key (Some c.args.value)
+    let before = c.put-before.ensures.before ∙ ap (λ cs. lookup (eq c.args.key) (entries_of cs))
+    c.deref_mut.ensures.value in
+    changed_map eq g.K.Hash.hash_input c.self.inside.keys cells.items c.put-before.new.cells _ c.self.inside.len
+    c.args.key (Some c.args.value)
     c.args.self.now c.self.view_is c.self.invariant updated back (c.self.inside.len + c.from.result)
-    (omega (arith, c.from.ensures, ap (λ o. one_if o) before, one_more c.put-before.result c.is_none.result c.is_none.ensures))
+    (omega (
+      arith,
+      c.from.ensures,
+      ap (λ o. one_if o) before,
+      one_more c.put-before.result c.is_none.result
+          c.is_none.ensures,
+    ))
 
 pub returns-clause-before : goal.returns-clause-before
 returns-clause-before g c =
@@ -40,47 +50,72 @@ pub returns-clause-values : goal.returns-clause-values
 returns-clause-values g c =
     let cells = c.self.inside.cells in
     let eq = g.K.PartialEq.eq in
-    let back = given_back cells.len cells.items c.put-before.new.cells (sym (c.put-before.ensures.after.long ∙ c.deref_mut.ensures.len)) in
-    let updated = subst (λ cs. IsUpdated eq g.K.Hash.hash_input c.self.inside.keys cs c.put-before.new.cells c.args.key (Some c.args.value))
+    let back = given_back cells.len cells.items c.put-before.new.cells
+    (sym (c.put-before.ensures.after.long ∙ c.deref_mut.ensures.len)) in
+    let updated = subst (λ cs. IsUpdated eq g.K.Hash.hash_input c.self.inside.keys cs c.put-before.new.cells
+    c.args.key (Some c.args.value))
     c.deref_mut.ensures.value c.put-before.ensures.after in
-    changed_values eq g.K.Hash.hash_input c.self.inside.keys cells.items c.put-before.new.cells _ c.self.inside.len c.args.key (Some c.args.value)
+    changed_values eq g.K.Hash.hash_input c.self.inside.keys cells.items c.put-before.new.cells _ c.self.inside.len
+    c.args.key (Some c.args.value)
     c.args.self.now c.self.view_is c.self.invariant updated back
 
 pub returns-clause-spare : goal.returns-clause-spare
 returns-clause-spare g c =
     let cells = c.self.inside.cells in
     let eq = g.K.PartialEq.eq in
-    let back = given_back cells.len cells.items c.put-before.new.cells (sym (c.put-before.ensures.after.long ∙ c.deref_mut.ensures.len)) in
-    let updated = subst (λ cs. IsUpdated eq g.K.Hash.hash_input c.self.inside.keys cs c.put-before.new.cells c.args.key (Some c.args.value))
+    let back = given_back cells.len cells.items c.put-before.new.cells
+    (sym (c.put-before.ensures.after.long ∙ c.deref_mut.ensures.len)) in
+    let updated = subst (λ cs. IsUpdated eq g.K.Hash.hash_input c.self.inside.keys cs c.put-before.new.cells
+    c.args.key (Some c.args.value))
     c.deref_mut.ensures.value c.put-before.ensures.after in
-    let before = c.put-before.ensures.before ∙ ap (λ cs. lookup (eq c.args.key) (entries_of cs)) c.deref_mut.ensures.value in
+    let before = c.put-before.ensures.before ∙ ap (λ cs. lookup (eq c.args.key) (entries_of cs))
+    c.deref_mut.ensures.value in
     omega (
       arith,
-      changed_spare eq g.K.Hash.hash_input c.self.inside.keys cells.items c.put-before.new.cells _ c.self.inside.len c.args.key
-          (Some c.args.value) c.args.self.now c.self.view_is c.self.invariant updated back (c.self.inside.len + c.from.result)
-          (omega (arith, c.from.ensures, ap (λ o. one_if o) before, one_more c.put-before.result c.is_none.result c.is_none.ensures)),
+      changed_spare eq g.K.Hash.hash_input c.self.inside.keys cells.items c.put-before.new.cells _ c.self.inside.len
+          c.args.key
+          (Some c.args.value) c.args.self.now c.self.view_is c.self.invariant updated back
+          (c.self.inside.len + c.from.result)
+          (omega (
+            arith,
+            c.from.ensures,
+            ap (λ o. one_if o) before,
+            one_more c.put-before.result c.is_none.result
+                c.is_none.ensures,
+          )),
     )
 
 pub returns-clause-spare_stays : goal.returns-clause-spare_stays
 returns-clause-spare_stays g c some =
     let cells = c.self.inside.cells in
     let eq = g.K.PartialEq.eq in
-    let back = given_back cells.len cells.items c.put-before.new.cells (sym (c.put-before.ensures.after.long ∙ c.deref_mut.ensures.len)) in
-    let updated = subst (λ cs. IsUpdated eq g.K.Hash.hash_input c.self.inside.keys cs c.put-before.new.cells c.args.key (Some c.args.value))
+    let back = given_back cells.len cells.items c.put-before.new.cells
+    (sym (c.put-before.ensures.after.long ∙ c.deref_mut.ensures.len)) in
+    let updated = subst (λ cs. IsUpdated eq g.K.Hash.hash_input c.self.inside.keys cs c.put-before.new.cells
+    c.args.key (Some c.args.value))
     c.deref_mut.ensures.value c.put-before.ensures.after in
-    let before = c.put-before.ensures.before ∙ ap (λ cs. lookup (eq c.args.key) (entries_of cs)) c.deref_mut.ensures.value in
+    let before = c.put-before.ensures.before ∙ ap (λ cs. lookup (eq c.args.key) (entries_of cs))
+    c.deref_mut.ensures.value in
     omega (
       arith,
       some_one (get eq c.args.self.now c.args.key) some,
       changed_spare eq g.K.Hash.hash_input c.self.inside.keys cells.items c.put-before.new.cells _ c.self.inside.len
-          c.args.key (Some c.args.value) c.args.self.now c.self.view_is c.self.invariant updated back (c.self.inside.len + c.from.result)
-          (omega (arith, c.from.ensures, ap (λ o. one_if o) before, one_more c.put-before.result c.is_none.result c.is_none.ensures)),
+          c.args.key (Some c.args.value) c.args.self.now c.self.view_is c.self.invariant updated back
+          (c.self.inside.len + c.from.result)
+          (omega (
+            arith,
+            c.from.ensures,
+            ap (λ o. one_if o) before,
+            one_more c.put-before.result c.is_none.result
+                c.is_none.ensures,
+          )),
     )
 
 pub returns-clause-unique : goal.returns-clause-unique
 returns-clause-unique g c =
     let cells = c.self.inside.cells in
-    let back = given_back cells.len cells.items c.put-before.new.cells (sym (c.put-before.ensures.after.long ∙ c.deref_mut.ensures.len)) in
+    let back = given_back cells.len cells.items c.put-before.new.cells
+    (sym (c.put-before.ensures.after.long ∙ c.deref_mut.ensures.len)) in
     subst (λ cs. IsDistinct g.K.PartialEq.eq (keys_of (entries_of cs))) (sym back)
     (distinct_keys g.K.PartialEq.eq c.put-before.new.cells c.put-before.ensures.after.table.probed.distinct)
 

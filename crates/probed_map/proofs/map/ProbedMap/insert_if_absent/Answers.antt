@@ -19,9 +19,11 @@ returns-clause-before g c =
 pub returns-clause-unique : goal.returns-clause-unique
 returns-clause-unique g c =
     let cells = c.self.inside.cells in
-    let back = given_back cells.len cells.items c.put_if_absent-before.new.cells (sym (c.put_if_absent-before.auto.cells ∙ c.deref_mut.ensures.len)) in
+    let back = given_back cells.len cells.items c.put_if_absent-before.new.cells
+    (sym (c.put_if_absent-before.auto.cells ∙ c.deref_mut.ensures.len)) in
     subst (λ cs. IsDistinct g.K.PartialEq.eq (keys_of (entries_of cs))) (sym back)
-    (distinct_keys g.K.PartialEq.eq c.put_if_absent-before.new.cells c.put_if_absent-before.ensures.table.probed.distinct)
+    (distinct_keys g.K.PartialEq.eq c.put_if_absent-before.new.cells
+    c.put_if_absent-before.ensures.table.probed.distinct)
 
 pub returns-clause-hasher : goal.returns-clause-hasher
 returns-clause-hasher g c = ap hasher_of c.self.view_is
@@ -30,44 +32,62 @@ pub returns-clause-values : goal.returns-clause-values
 returns-clause-values g c none =
     let cells = c.self.inside.cells in
     let eq = g.K.PartialEq.eq in
-    let back = given_back cells.len cells.items c.put_if_absent-before.new.cells (sym (c.put_if_absent-before.auto.cells ∙ c.deref_mut.ensures.len)) in
-    let before = c.put_if_absent-before.ensures.before ∙ ap (λ cs. lookup (eq c.args.key) (entries_of cs)) c.deref_mut.ensures.value in
+    let back = given_back cells.len cells.items c.put_if_absent-before.new.cells
+    (sym (c.put_if_absent-before.auto.cells ∙ c.deref_mut.ensures.len)) in
+    let before = c.put_if_absent-before.ensures.before ∙ ap (λ cs. lookup (eq c.args.key) (entries_of cs))
+    c.deref_mut.ensures.value in
     let there = before ∙ ap (λ m. get eq m c.args.key) c.self.view_is in
-    let updated = subst (λ cs. IsUpdated eq g.K.Hash.hash_input c.self.inside.keys cs c.put_if_absent-before.new.cells c.args.key (Some c.args.value))
+    let updated = subst (λ cs. IsUpdated eq g.K.Hash.hash_input c.self.inside.keys cs c.put_if_absent-before.new.cells
+    c.args.key (Some c.args.value))
     c.deref_mut.ensures.value (c.put_if_absent-before.ensures.after (there ∙ none)) in
-    changed_values eq g.K.Hash.hash_input c.self.inside.keys cells.items c.put_if_absent-before.new.cells _ c.self.inside.len c.args.key (Some c.args.value)
+    changed_values eq g.K.Hash.hash_input c.self.inside.keys cells.items c.put_if_absent-before.new.cells _
+    c.self.inside.len c.args.key (Some c.args.value)
     c.args.self.now c.self.view_is c.self.invariant updated back
 
 pub returns-clause-spare : goal.returns-clause-spare
 returns-clause-spare g c none =
     let cells = c.self.inside.cells in
     let eq = g.K.PartialEq.eq in
-    let back = given_back cells.len cells.items c.put_if_absent-before.new.cells (sym (c.put_if_absent-before.auto.cells ∙ c.deref_mut.ensures.len)) in
-    let before = c.put_if_absent-before.ensures.before ∙ ap (λ cs. lookup (eq c.args.key) (entries_of cs)) c.deref_mut.ensures.value in
+    let back = given_back cells.len cells.items c.put_if_absent-before.new.cells
+    (sym (c.put_if_absent-before.auto.cells ∙ c.deref_mut.ensures.len)) in
+    let before = c.put_if_absent-before.ensures.before ∙ ap (λ cs. lookup (eq c.args.key) (entries_of cs))
+    c.deref_mut.ensures.value in
     let there = before ∙ ap (λ m. get eq m c.args.key) c.self.view_is in
-    let updated = subst (λ cs. IsUpdated eq g.K.Hash.hash_input c.self.inside.keys cs c.put_if_absent-before.new.cells c.args.key (Some c.args.value))
+    let updated = subst (λ cs. IsUpdated eq g.K.Hash.hash_input c.self.inside.keys cs c.put_if_absent-before.new.cells
+    c.args.key (Some c.args.value))
     c.deref_mut.ensures.value (c.put_if_absent-before.ensures.after (there ∙ none)) in
     omega (
       arith,
       none_one (get eq c.args.self.now c.args.key) none,
-      changed_spare eq g.K.Hash.hash_input c.self.inside.keys cells.items c.put_if_absent-before.new.cells _ c.self.inside.len c.args.key (Some c.args.value)
+      changed_spare eq g.K.Hash.hash_input c.self.inside.keys cells.items c.put_if_absent-before.new.cells _
+          c.self.inside.len c.args.key (Some c.args.value)
           c.args.self.now c.self.view_is c.self.invariant updated back (c.self.inside.len + c.from.result)
-          (omega (arith, c.from.ensures, ap (λ o. one_if o) before, one_more c.put_if_absent-before.result c.is_none.result c.is_none.ensures)),
+          (omega (
+            arith,
+            c.from.ensures,
+            ap (λ o. one_if o) before,
+            one_more c.put_if_absent-before.result
+                c.is_none.result c.is_none.ensures,
+          )),
     )
 
 pub invariant_of-self : goal.invariant_of-self
 invariant_of-self g c =
     let cells = c.self.inside.cells in
     let eq = g.K.PartialEq.eq in
-    let back = given_back cells.len cells.items c.put_if_absent-before.new.cells (sym (c.put_if_absent-before.auto.cells ∙ c.deref_mut.ensures.len)) in
-    let before = c.put_if_absent-before.ensures.before ∙ ap (λ cs. lookup (eq c.args.key) (entries_of cs)) c.deref_mut.ensures.value in
+    let back = given_back cells.len cells.items c.put_if_absent-before.new.cells
+    (sym (c.put_if_absent-before.auto.cells ∙ c.deref_mut.ensures.len)) in
+    let before = c.put_if_absent-before.ensures.before ∙ ap (λ cs. lookup (eq c.args.key) (entries_of cs))
+    c.deref_mut.ensures.value in
     let there = before ∙ ap (λ m. get eq m c.args.key) c.self.view_is in
     let count = one_more c.put_if_absent-before.result c.is_none.result c.is_none.ensures in
     elim (cases_option c.put_if_absent-before.result) [
       | inl none ↦
-          let updated = subst (λ cs. IsUpdated eq g.K.Hash.hash_input c.self.inside.keys cs c.put_if_absent-before.new.cells c.args.key (Some c.args.value))
+          let updated = subst (λ cs. IsUpdated eq g.K.Hash.hash_input c.self.inside.keys cs
+          c.put_if_absent-before.new.cells c.args.key (Some c.args.value))
           c.deref_mut.ensures.value (c.put_if_absent-before.ensures.after none) in
-          changed_map eq g.K.Hash.hash_input c.self.inside.keys cells.items c.put_if_absent-before.new.cells _ c.self.inside.len c.args.key (Some c.args.value)
+          changed_map eq g.K.Hash.hash_input c.self.inside.keys cells.items c.put_if_absent-before.new.cells _
+          c.self.inside.len c.args.key (Some c.args.value)
           c.args.self.now c.self.view_is c.self.invariant updated back (c.self.inside.len + c.from.result)
           (omega (arith, c.from.ensures, ap (λ o. one_if o) before, count))
       | inr some ↦

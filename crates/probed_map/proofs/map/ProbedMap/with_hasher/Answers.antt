@@ -7,4 +7,5 @@ use Rattle.probed_map.proofs.map.ProbedMap.with_hasher.Goals as goal
 
 pub returns-clause-unique : goal.returns-clause-unique
 returns-clause-unique g c =
-    subst (λ cs. IsDistinct g.K.PartialEq.eq (keys_of (entries_of cs))) (sym c.new.ensures.items) (none_twice g.K.PartialEq.eq)
+    subst (λ cs. IsDistinct g.K.PartialEq.eq (keys_of (entries_of cs))) (sym c.new.ensures.items)
+    (none_twice g.K.PartialEq.eq)
