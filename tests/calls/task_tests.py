@@ -27,9 +27,9 @@ class Count:
     reports: int
 
 
-# A packet that leaves takes 64 bytes, so 2,048 of them fill OUT's buffer of 131,072: a write of the header, one of each
-# full buffer, and one of the rest.
-COUNTS = (Count("every packet leaves", "", 4, 1), Count("every other packet is dropped", DROPPING, 3, 1))
+# A read asks for 65,536 bytes, and the capture has between four and five times as many. Before each read all output is
+# written, the header before the first: so there is a write of OUT for each of five reads, and one of the rest.
+COUNTS = (Count("every packet leaves", "", 6, 1), Count("every other packet is dropped", DROPPING, 6, 1))
 
 
 @dataclass(frozen=True)
